@@ -1,0 +1,83 @@
+-- Laws of answers: what is done, what is not, and that `told` tells them apart. Assumes nothing.
+use mathlib.Core.Path.{_≡_, refl, sym, ap, _∙_}
+use mathlib.Core.Bool.{Bool, true, false}
+use mathlib.Core.List.{List, [], _∷_}
+use Prim.Native.Nat.{ℕ}
+use lib.Dec.{eqb}
+use denote.Enum.Declared.{tagOf}
+use types.Run.{OneOf, miss}
+use Rattle.defs.proofs.answer.Answer.{the-type}
+use Rattle.defs.specs.Choice.{when}
+use Rattle.defs.specs.Answer.{Told, told, isDone, whenDone}
+use Rattle.defs.specs.declared.answer.Answer.{Answer}
+use Rattle.defs.specs.declared.answer.Answer.the-variants.{Done, BadRecord, BadHeader, BadClock, BadLength, BadAnswer, NoRoom, NoData, PktBufMissing, TxBufFull, StreamBlocked, StreamFailed, NotQueued}
+use Rattle.defs.proofs.ChoiceLaws.{when-true, when-false}
+
+-- what the code knows past a `let Answer::Done = a else`: one of the other cases
+abbrev otherKeys : List ℕ
+otherKeys = 1 ∷ 2 ∷ 3 ∷ 4 ∷ 5 ∷ 6 ∷ 7 ∷ 8 ∷ 9 ∷ 10 ∷ 11 ∷ 12 ∷ []
+
+abbrev pub NotDone : Answer → Type 0
+NotDone a = OneOf otherKeys (tagOf the-type a)
+
+pub not-done : (a : Answer) → NotDone a → isDone a ≡ false
+unfolding isDone
+not-done Done k = absurd (miss otherKeys 0 tt k)
+not-done BadRecord k = refl
+not-done BadHeader k = refl
+not-done BadClock k = refl
+not-done BadLength k = refl
+not-done BadAnswer k = refl
+not-done NoRoom k = refl
+not-done NoData k = refl
+not-done PktBufMissing k = refl
+not-done TxBufFull k = refl
+not-done StreamBlocked k = refl
+not-done StreamFailed k = refl
+not-done NotQueued k = refl
+
+pub done-is-done : isDone Done ≡ true
+unfolding isDone
+done-is-done = refl
+
+pub when-done {ℓ} : {A : Type ℓ} (a : Answer) (x y : A) → a ≡ Done → whenDone a x y ≡ x
+unfolding whenDone
+when-done a x y e = when-true x y (isDone a) (ap isDone e ∙ done-is-done)
+
+pub when-not-done {ℓ} : {A : Type ℓ} (a : Answer) (x y : A) → isDone a ≡ false → whenDone a x y ≡ y
+unfolding whenDone
+when-not-done a x y e = when-false x y (isDone a) e
+
+-- the case that has a number and a value
+untold : Told → Answer
+untold t =
+    when (eqb (t .number) 1) BadRecord
+    (when (eqb (t .number) 2) BadHeader
+    (when (eqb (t .number) 3) BadClock
+    (when (eqb (t .number) 4) BadLength
+    (when (eqb (t .number) 5) BadAnswer
+    (when (eqb (t .number) 6) NoRoom
+    (when (eqb (t .number) 7) NoData
+    (when (eqb (t .number) 8) PktBufMissing
+    (when (eqb (t .number) 9) TxBufFull
+    (when (eqb (t .number) 10) (when (t .failed) StreamFailed StreamBlocked)
+    (when (eqb (t .number) 11) NotQueued Done))))))))))
+
+untold-told : (a : Answer) → untold (told a) ≡ a
+unfolding when untold
+untold-told Done = refl
+untold-told BadRecord = refl
+untold-told BadHeader = refl
+untold-told BadClock = refl
+untold-told BadLength = refl
+untold-told BadAnswer = refl
+untold-told NoRoom = refl
+untold-told NoData = refl
+untold-told PktBufMissing = refl
+untold-told TxBufFull = refl
+untold-told StreamBlocked = refl
+untold-told StreamFailed = refl
+untold-told NotQueued = refl
+
+pub told-tells-apart : (a b : Answer) → told a ≡ told b → a ≡ b
+told-tells-apart a b e = sym (untold-told a) ∙ ap untold e ∙ untold-told b

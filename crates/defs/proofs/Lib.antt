@@ -1,0 +1,11 @@
+pub mod Basics
+pub mod ChoiceLaws
+pub mod AnswerLaws
+pub mod LadderLaws
+pub mod LimitLaws
+pub mod WrappingLaws
+pub mod CreditLaws
+pub mod CopyLaws
+pub mod Pins
+pub mod Readings
+pub mod Promises

@@ -1,0 +1,11 @@
+pub mod Choice
+pub mod Answer
+pub mod Limits
+pub mod Ladder
+pub mod Wrapping
+pub mod Credit
+pub mod Copying
+pub mod Pinned
+pub mod Reading
+pub mod Edges
+pub mod Promises

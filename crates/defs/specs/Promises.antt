@@ -1,0 +1,89 @@
+-- What this crate promises, in statements only; proofs/Promises has a line for each. Assumes nothing.
+use Prim.Native.Nat.{ℕ, zero, suc, _+_, _-_, _%_, _^_, _<_, _≤_, min}
+use mathlib.Core.Path.{_≡_}
+use mathlib.Core.Bool.{Bool, true, false}
+use mathlib.Core.List.{List, [], _∷_}
+use lib.ListN.{getD}
+use Rattle.defs.specs.Answer.{told}
+use Rattle.defs.specs.Limits.{minRing, maxRing, isRingSize, isThreshold, isTimeout, isRxqLimit, isKillqLimit, isSlotCount, isClock, isPacketLength, isHeaderLength}
+use Rattle.defs.specs.Ladder.{doorOf, lateOf, lowestOf}
+use Rattle.defs.specs.Wrapping.{wadd, wsub}
+use Rattle.defs.specs.Credit.{peerAvailCredit, peerNeedsCreditUpdate}
+use Rattle.defs.specs.Copying.{copied}
+use Rattle.defs.specs.Pinned.{Pinned}
+use Rattle.defs.specs.Reading.{Hold}
+use Rattle.defs.specs.Edges.{readingE, readingH}
+use Rattle.defs.specs.declared.answer.Answer.{Answer}
+
+-- each of the two facts holds where the other does
+abbrev pub Exactly : Type 0 → Type 0 → Type 0
+Exactly p q = (p → q) × (q → p)
+
+-- 01, "When an answer is an enum": number and values tell the cases apart
+abbrev pub ToldTellsApart : Type 0
+ToldTellsApart = (a b : Answer) → told a ≡ told b → a ≡ b
+
+-- row n's test holds and no lower row's does; row 0 is "otherwise", where no test holds
+abbrev pub LowestRow : List Bool → ℕ → Type 0
+LowestRow tests zero = (m : ℕ) → getD tests m false ≡ false
+LowestRow tests (suc n) = (getD tests n false ≡ true) × ((m : ℕ) → m < n → getD tests m false ≡ false)
+
+-- 01's "given exactly when" and "several at once: the lowest number", for rows 1 to 6
+abbrev pub LowestNumber : Type 0
+LowestNumber =
+    (r h c l a m : Bool) (n : ℕ)
+    → Exactly (told (lowestOf (doorOf r h c l) (lateOf a m)) .number ≡ n) (LowestRow (r ∷ h ∷ c ∷ l ∷ a ∷ m ∷ []) n)
+
+-- a power of two
+abbrev pub PowerOfTwo : ℕ → Type 0
+PowerOfTwo size = (k : ℕ) × (size ≡ 2 ^ k)
+
+-- the quick test of a ring's size says what 01 says: a power of two from the smallest to the largest
+abbrev pub RingSizes : Type 0
+RingSizes = (size : ℕ) → Exactly (isRingSize size ≡ true) (PowerOfTwo size × (minRing ≤ size) × (size ≤ maxRing))
+
+-- wrapping sums and differences are those of the numbers modulo 2^32
+pub record WrapsAround : Type 0 where
+  pub sums : (a b c : ℕ) → wadd (wadd a b) c ≡ wadd a (b + c)
+  pub back : (a b : ℕ) → a < 2 ^ 32 → b < 2 ^ 32 → wsub (wadd a b) a ≡ b
+  pub forth : (a b : ℕ) → a < 2 ^ 32 → b < 2 ^ 32 → wadd b (wsub a b) ≡ a
+
+-- a ring's size divides 2^32, so a wrapping count keeps its place in the ring
+pub record KeepsPlace : Type 0 where
+  pub divides : (size : ℕ) → isRingSize size ≡ true → 2 ^ 32 % size ≡ 0
+  pub sum : (size a b : ℕ) → isRingSize size ≡ true → wadd a b % size ≡ (a + b) % size
+  pub difference : (size a b : ℕ) → isRingSize size ≡ true → b < 2 ^ 32 → (wsub a b + b) % size ≡ a % size
+
+-- the standard's formula: with sent and fwd the true counts, it gives the free space while no more is outstanding than was allocated
+abbrev pub CreditIsFreeSpace : Type 0
+CreditIsFreeSpace =
+    (alloc sent fwd : ℕ) → alloc < 2 ^ 32 → fwd ≤ sent → sent - fwd ≤ alloc
+    → peerAvailCredit alloc (sent % 2 ^ 32) (fwd % 2 ^ 32) ≡ alloc - (sent - fwd)
+
+-- 01's readings at the edges of this crate
+pub record EdgesHold : Type 0 where
+  pub e : Hold readingE
+  pub h : Hold readingH
+
+-- every public call: any two outcomes that meet its contract are identical
+pub record EachCallPinned : Type 0 where
+  pub number-of : Pinned Answer ℕ (λ a r. r ≡ told a .number)
+  pub is-ring-size : Pinned ℕ Bool (λ n r. r ≡ isRingSize n)
+  pub is-threshold : Pinned (ℕ × ℕ) Bool (λ i r. r ≡ isThreshold (i .0) (i .1))
+  pub is-timeout : Pinned ℕ Bool (λ n r. r ≡ isTimeout n)
+  pub is-rxq-limit : Pinned ℕ Bool (λ n r. r ≡ isRxqLimit n)
+  pub is-killq-limit : Pinned ℕ Bool (λ n r. r ≡ isKillqLimit n)
+  pub is-slot-count : Pinned ℕ Bool (λ n r. r ≡ isSlotCount n)
+  pub is-clock : Pinned ℕ Bool (λ n r. r ≡ isClock n)
+  pub is-packet-length : Pinned ℕ Bool (λ n r. r ≡ isPacketLength n)
+  pub is-header-length : Pinned ℕ Bool (λ n r. r ≡ isHeaderLength n)
+  pub door : Pinned (Bool × Bool × Bool × Bool) Answer (λ i r. r ≡ doorOf (i .0) (i .1) (i .2) (i .3))
+  pub late : Pinned (Bool × Bool) Answer (λ i r. r ≡ lateOf (i .0) (i .1))
+  pub lowest : Pinned (Answer × Answer) Answer (λ i r. r ≡ lowestOf (i .0) (i .1))
+  pub wrapping-add : Pinned (ℕ × ℕ) ℕ (λ i r. r ≡ wadd (i .0) (i .1))
+  pub wrapping-sub : Pinned (ℕ × ℕ) ℕ (λ i r. r ≡ wsub (i .0) (i .1))
+  pub peer-avail-credit : Pinned (ℕ × ℕ × ℕ) ℕ (λ i r. r ≡ peerAvailCredit (i .0) (i .1) (i .2))
+  pub peer-needs-credit-update : Pinned (ℕ × ℕ × ℕ × ℕ) Bool (λ i r. r ≡ peerNeedsCreditUpdate (i .0) (i .1) (i .2) (i .3))
+  pub smaller : Pinned (ℕ × ℕ) ℕ (λ i r. r ≡ min (i .0) (i .1))
+  pub copy : Pinned (List ℕ × List ℕ) (List ℕ) (λ i left. left ≡ copied (i .0) (i .1))
+  pub vsock-copy : Pinned (List ℕ × List ℕ) (List ℕ) (λ i left. left ≡ copied (i .0) (i .1))

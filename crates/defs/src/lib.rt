@@ -1,0 +1,24 @@
+// What every call shares: answers, the stream's answers, limits, the refusal ladder, 32-bit
+// wrapping arithmetic, credit, and the one function that copies bytes.
+mod answer;
+mod copying;
+mod credit;
+mod ladder;
+pub mod limits;
+mod stream;
+mod wrapping;
+
+pub use answer::Answer;
+pub use answer::number_of;
+pub use copying::copy;
+pub use copying::smaller;
+pub use credit::peer_avail_credit;
+pub use credit::peer_needs_credit_update;
+pub use ladder::door;
+pub use ladder::late;
+pub use ladder::lowest;
+pub use stream::ReadAnswer;
+pub use stream::StreamAnswer;
+pub use stream::StreamAnswers;
+pub use wrapping::wrapping_add;
+pub use wrapping::wrapping_sub;

@@ -1,0 +1,4 @@
+pub mod LeLaws
+pub mod HeaderLaws
+pub mod Callers
+pub mod Promises

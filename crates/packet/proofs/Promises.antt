@@ -1,0 +1,29 @@
+-- The promises of specs/Promises, each by its law. Assumes nothing.
+use mathlib.Core.Path.{refl}
+use Rattle.defs.specs.Choice.{when}
+use Rattle.defs.specs.Limits.{isHeaderLength}
+use Rattle.defs.proofs.Pins.{by-equation}
+use Rattle.packet.specs.Header.{encoded, decoded, decodeOf, encodeOf}
+use Rattle.packet.specs.Edges.{readingA, wrongLengths}
+use Rattle.packet.specs.Promises.{FieldsStandAt, DecodeAfterEncode, EncodeAfterDecode, ToldTellsApart, EdgesHold, EachCallPinned}
+use Rattle.packet.proofs.HeaderLaws as header
+use Rattle.packet.proofs.Callers as callers
+
+pub fields-stand-at : FieldsStandAt
+fields-stand-at = refl
+
+pub decode-after-encode : DecodeAfterEncode
+decode-after-encode = header.decode-after-encode
+
+pub encode-after-decode : EncodeAfterDecode
+encode-after-decode = header.encode-after-decode
+
+pub told-tells-apart : ToldTellsApart
+told-tells-apart = callers.told-tells-apart
+
+pub edges-hold : EdgesHold
+unfolding readingA wrongLengths encodeOf decodeOf encoded decoded isHeaderLength when
+edges-hold = record { a = (refl, (refl, tt)); lengths = (refl, (refl, tt)) }
+
+pub each-call-pinned : EachCallPinned
+each-call-pinned = record { decode = by-equation _ _ _; encode = by-equation _ _ _ }

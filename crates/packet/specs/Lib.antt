@@ -1,0 +1,5 @@
+pub mod Le
+pub mod Uapi
+pub mod Header
+pub mod Edges
+pub mod Promises
