@@ -26,4 +26,4 @@ unfolding readingA wrongLengths encodeOf decodeOf encoded decoded isHeaderLength
 edges-hold = record { a = (refl, (refl, tt)); lengths = (refl, (refl, tt)) }
 
 pub each-call-pinned : EachCallPinned
-each-call-pinned = record { decode = by-equation _ _ _; encode = by-equation _ _ _ }
+each-call-pinned = record { decode = by-equation _ _ _; encode = by-equation _ _ _; set-flag = by-equation _ _ _ }

@@ -2,6 +2,7 @@
 use Prim.Native.Nat.{ℕ}
 use mathlib.Core.Path.{_≡_}
 use mathlib.Core.List.{List, [], _∷_}
+use lib.Bits.{bitOr}
 use lib.ListN.{length, getD}
 use Rattle.defs.specs.Choice.{when}
 use Rattle.defs.specs.Answer.{Told, told}
@@ -42,6 +43,23 @@ encoded h = packed layout (fields h)
 
 unfoldable pub decoded : List ℕ → VsockPacketHdr
 decoded bytes = ofFields (unpacked layout bytes)
+
+-- ---- set_flag, as in the Rust
+
+-- the header with the flag ORed in, all else the same
+unfoldable pub flagged : VsockPacketHdr → ℕ → VsockPacketHdr
+flagged h flag = record {
+  «src_cid» = h .«src_cid»;
+  «dst_cid» = h .«dst_cid»;
+  «src_port» = h .«src_port»;
+  «dst_port» = h .«dst_port»;
+  len = h .len;
+  «type_» = h .«type_»;
+  op = h .op;
+  flags = bitOr (h .flags) flag;
+  «buf_alloc» = h .«buf_alloc»;
+  «fwd_cnt» = h .«fwd_cnt»;
+}
 
 -- ---- decode
 

@@ -9,7 +9,7 @@ use Rattle.defs.specs.Pinned.{Pinned}
 use Rattle.defs.specs.Reading.{Hold}
 use Rattle.defs.specs.declared.answer.Answer.the-variants.{Done}
 use Rattle.packet.specs.Le.{le, ofLe, offsets}
-use Rattle.packet.specs.Header.{layout, fields, encoded, decoded, toldDecoded, DecodeLeft, decodeOf, DecodeSays, EncodeIn, EncodeLeft, encodeOf, EncodeSays}
+use Rattle.packet.specs.Header.{layout, fields, flagged, toldDecoded, DecodeLeft, decodeOf, DecodeSays, EncodeIn, EncodeLeft, encodeOf, EncodeSays}
 use Rattle.packet.specs.Edges.{readingA, wrongLengths}
 use Rattle.packet.specs.declared.hdr.VsockPacketHdr.{VsockPacketHdr}
 use Rattle.packet.specs.declared.hdr.Decoded.{Decoded}
@@ -54,3 +54,4 @@ pub record EdgesHold : Type 0 where
 pub record EachCallPinned : Type 0 where
   pub decode : Pinned (List ℕ) DecodeLeft DecodeSays
   pub encode : Pinned EncodeIn EncodeLeft EncodeSays
+  pub set-flag : Pinned (VsockPacketHdr × ℕ) VsockPacketHdr (λ i r. r ≡ flagged (i .0) (i .1))

@@ -3,7 +3,7 @@ ghost use mathlib.Core.Path.{_≡_};
 ghost use lib.ListN.{length};
 ghost use Rattle.defs.specs.Answer.{told};
 ghost use Rattle.defs.specs.Limits.{headerSize};
-ghost use Rattle.packet.specs.Header.{encoded, decoded, toldDecoded, DecodeSays, EncodeIn, EncodeLeft, EncodeSays};
+ghost use Rattle.packet.specs.Header.{encoded, decoded, flagged, toldDecoded, DecodeSays, EncodeIn, EncodeLeft, EncodeSays};
 use crate::le::get_u16;
 use crate::le::get_u32;
 use crate::le::get_u64;
@@ -26,6 +26,16 @@ pub struct VsockPacketHdr {
     // The sender's whole receive space for this connection, and how much it has taken out of it.
     pub buf_alloc: u32,
     pub fwd_cnt: u32,
+}
+
+impl VsockPacketHdr {
+    // The header with one flag more.
+    pub fn set_flag(mut self, flag: u32) -> VsockPacketHdr
+        ensures { λ r. ⌜ r ≡ flagged self flag ⌝ }
+    {
+        self.flags = self.flags | flag;
+        self
+    }
 }
 
 pub enum Decoded {
