@@ -11,6 +11,7 @@ use Rattle.defs.specs.Choice.{when}
 use Rattle.defs.specs.Answer.{Told, told, isDone, whenDone}
 use Rattle.defs.specs.declared.answer.Answer.{Answer}
 use Rattle.defs.specs.declared.answer.Answer.the-variants.{Done, BadRecord, BadHeader, BadClock, BadLength, BadAnswer, NoRoom, NoData, PktBufMissing, TxBufFull, StreamBlocked, StreamFailed, NotQueued}
+use Rattle.defs.proofs.Basics.{never}
 use Rattle.defs.proofs.ChoiceLaws.{when-true, when-false}
 
 -- what the code knows past a `let Answer::Done = a else`: one of the other cases
@@ -39,6 +40,22 @@ not-done NotQueued k = refl
 pub done-is-done : isDone Done ≡ true
 unfolding isDone
 done-is-done = refl
+
+pub is-done : (a : Answer) → isDone a ≡ true → a ≡ Done
+unfolding isDone
+is-done Done e = refl
+is-done BadRecord e = absurd (never e)
+is-done BadHeader e = absurd (never e)
+is-done BadClock e = absurd (never e)
+is-done BadLength e = absurd (never e)
+is-done BadAnswer e = absurd (never e)
+is-done NoRoom e = absurd (never e)
+is-done NoData e = absurd (never e)
+is-done PktBufMissing e = absurd (never e)
+is-done TxBufFull e = absurd (never e)
+is-done StreamBlocked e = absurd (never e)
+is-done StreamFailed e = absurd (never e)
+is-done NotQueued e = absurd (never e)
 
 pub when-done {ℓ} : {A : Type ℓ} (a : Answer) (x y : A) → a ≡ Done → whenDone a x y ≡ x
 unfolding whenDone
@@ -81,3 +98,11 @@ untold-told NotQueued = refl
 
 pub told-tells-apart : (a b : Answer) → told a ≡ told b → a ≡ b
 told-tells-apart a b e = sym (untold-told a) ∙ ap untold e ∙ untold-told b
+
+-- ---- an outcome that is made of an answer and one thing more, for a call that leaves by `let Answer::Done = a else`
+
+pub outcome-kept : {A Out : Type 0} (make : Told → A → Out) (a p : Answer) (x y : A) → a ≡ p → NotDone a → make (told a) y ≡ make (told p) (whenDone p x y)
+outcome-kept make a p x y e k = rw (← e) (ap (make (told a)) (sym (when-not-done a x y (not-done a k))))
+
+pub outcome-done : {A Out : Type 0} (make : Told → A → Out) (a p : Answer) (x y : A) → a ≡ p → a ≡ Done → make (told a) x ≡ make (told p) (whenDone p x y)
+outcome-done make a p x y e d = rw (← e) (ap (make (told a)) (sym (when-done a x y d)))

@@ -11,7 +11,10 @@ use Rattle.defs.specs.Choice.{when}
 use Rattle.defs.specs.Answer.{told, isDone, whenDone}
 use Rattle.defs.specs.Ladder.{doorOf, lateOf, lowestOf}
 use Rattle.defs.specs.Promises.{LowestRow, LowestNumber}
-use Rattle.defs.proofs.Basics.{lt-or-ge}
+use Rattle.defs.specs.declared.answer.Answer.{Answer}
+use Rattle.defs.specs.declared.answer.Answer.the-variants.{Done}
+use Rattle.defs.proofs.AnswerLaws.{NotDone, not-done, is-done, done-is-done, when-done, when-not-done}
+use Rattle.defs.proofs.Basics.{never, lt-or-ge, true-or-false}
 
 -- the number of the first row whose test holds
 abbrev up : ℕ → ℕ
@@ -45,7 +48,7 @@ first-is-lowest (true ∷ ts) = (refl, λ m l. absurd (not-suc-le-zero l))
 first-is-lowest (false ∷ ts) = one-on ts (firstRow ts) (first-is-lowest ts)
 
 clash : (b : Bool) → b ≡ false → b ≡ true → ⊥
-clash b p q = let z : _≡_ {A = ℕ} 0 1 = cc in omega arith
+clash b p q = never (sym p ∙ q)
 
 one-lowest : (ts : List Bool) (n k : ℕ) → LowestRow ts n → LowestRow ts k → n ≡ k
 one-lowest ts zero zero p q = refl
@@ -74,3 +77,50 @@ lowest-number r h c l a m n =
     let ts : List Bool = r ∷ h ∷ c ∷ l ∷ a ∷ m ∷ [] in
     let e = ladder-is-first r h c l a m in
     (λ p. subst (λ (k : ℕ). LowestRow ts k) (sym e ∙ p) (first-is-lowest ts), λ q. e ∙ one-lowest ts _ n (first-is-lowest ts) q)
+
+-- ---- for callers: what a part that passed or refused says
+
+-- past a `let Answer::Done = a else`, the first part's refusal is the ladder's
+pub lowest-kept : (a p q : Answer) → a ≡ p → NotDone a → a ≡ lowestOf p q
+unfolding lowestOf
+lowest-kept a p q e k = rw (← e) (sym (when-not-done a q a (not-done a k)))
+
+-- after it, the second part decides
+pub lowest-on : (a p q : Answer) → a ≡ p → a ≡ Done → lowestOf p q ≡ q
+unfolding lowestOf
+lowest-on a p q e d = when-done p q p (sym e ∙ d)
+
+pub lowest-passed : (p q : Answer) → lowestOf p q ≡ Done → (p ≡ Done) × (q ≡ Done)
+unfolding lowestOf
+lowest-passed p q e =
+    ⊎-elim
+    (λ (t : isDone p ≡ true). let d = is-done p t in (d, sym (when-done p q p d) ∙ e))
+    (λ (t : isDone p ≡ false). absurd (clash (isDone p) t (ap isDone (sym (when-not-done p q p t) ∙ e) ∙ done-is-done)))
+    (true-or-false (isDone p))
+
+refused : {A : Type 0} (a : Answer) → a ≡ Done → 0 < told a .number → A
+refused a e l = let z : told a .number ≡ 0 = ap (λ (x : Answer). told x .number) e in absurd (omega arith)
+
+pub record DoorPassed (r h c l : Bool) : Type 0 where
+  pub record-ok : r ≡ false
+  pub header-ok : h ≡ false
+  pub clock-ok : c ≡ false
+  pub length-ok : l ≡ false
+
+pub door-passed : (r h c l : Bool) → doorOf r h c l ≡ Done → DoorPassed r h c l
+unfolding doorOf when
+door-passed true h c l e = refused _ e (omega arith)
+door-passed false true c l e = refused _ e (omega arith)
+door-passed false false true l e = refused _ e (omega arith)
+door-passed false false false true e = refused _ e (omega arith)
+door-passed false false false false e = record { record-ok = refl; header-ok = refl; clock-ok = refl; length-ok = refl }
+
+pub record LatePassed (a n : Bool) : Type 0 where
+  pub answer-ok : a ≡ false
+  pub room-ok : n ≡ false
+
+pub late-passed : (a n : Bool) → lateOf a n ≡ Done → LatePassed a n
+unfolding lateOf when
+late-passed true n e = refused _ e (omega arith)
+late-passed false true e = refused _ e (omega arith)
+late-passed false false e = record { answer-ok = refl; room-ok = refl }

@@ -8,7 +8,7 @@ use native.Mathlib.Nat.{mul-add, add-mul, mul-suc, mul-zero, zero-mul, two-pow-s
 use lib.Pow.{pow-add}
 use lib.Dec.{leb, eqb}
 use borrow.Author.Tests.{leb-true, eqb-true, le-leb, eq-eqb}
-use Rattle.defs.specs.Limits.{minRing, maxRingLog, maxRing, isRingSize, headerSize, isHeaderLength}
+use Rattle.defs.specs.Limits.{minRing, maxRingLog, maxRing, isRingSize, maxPacket, isPacketLength, headerSize, isHeaderLength}
 use Rattle.defs.specs.Promises.{Exactly, PowerOfTwo, RingSizes}
 use Rattle.defs.proofs.Basics.{both, lt-or-ge}
 
@@ -86,3 +86,7 @@ ring-sizes size = (
 pub header-length : (bytes : ℕ) → Exactly (isHeaderLength bytes ≡ true) (bytes ≡ headerSize)
 unfolding isHeaderLength
 header-length bytes = (eqb-true bytes headerSize, eq-eqb bytes headerSize)
+
+pub packet-length : (bytes : ℕ) → Exactly (isPacketLength bytes ≡ true) (bytes ≤ maxPacket)
+unfolding isPacketLength
+packet-length bytes = (leb-true bytes maxPacket, le-leb bytes maxPacket)

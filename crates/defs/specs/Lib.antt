@@ -1,5 +1,6 @@
 pub mod Choice
 pub mod Answer
+pub mod Stream
 pub mod Limits
 pub mod Ladder
 pub mod Wrapping

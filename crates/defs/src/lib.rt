@@ -20,5 +20,6 @@ pub use ladder::lowest;
 pub use stream::ReadAnswer;
 pub use stream::StreamAnswer;
 pub use stream::StreamAnswers;
+pub use stream::stopped_by;
 pub use wrapping::wrapping_add;
 pub use wrapping::wrapping_sub;

@@ -1,5 +1,9 @@
 // What the host's stream answers to a write or a read. The caller tries the stream and hands the
 // answer in (01, "What must take another shape": a boxed stream becomes answers).
+ghost use mathlib.Core.Path.{_≡_};
+ghost use Rattle.defs.specs.Stream.{stoppedBy};
+use crate::answer::Answer;
+
 pub enum StreamAnswer {
     Count(usize),
     WouldBlock,
@@ -18,4 +22,15 @@ pub enum ReadAnswer {
 pub struct StreamAnswers {
     pub first: StreamAnswer,
     pub second: StreamAnswer,
+}
+
+// How a direct call ends by the answer to its first write: done, or number 10 of either kind.
+pub fn stopped_by(answer: StreamAnswer) -> Answer
+    ensures { λ r. ⌜ r ≡ stoppedBy answer ⌝ }
+{
+    match answer {
+        StreamAnswer::Count(_) => Answer::Done,
+        StreamAnswer::WouldBlock => Answer::StreamBlocked,
+        StreamAnswer::Failed => Answer::StreamFailed,
+    }
 }

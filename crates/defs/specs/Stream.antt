@@ -1,0 +1,18 @@
+-- The stream's answers (01, "The stream, the clock, the header"). Assumes nothing.
+use Prim.Native.Nat.{ℕ}
+use Rattle.defs.specs.declared.stream.StreamAnswer.{StreamAnswer}
+use Rattle.defs.specs.declared.stream.StreamAnswer.the-variants.{Count, WouldBlock, Failed}
+use Rattle.defs.specs.declared.answer.Answer.{Answer}
+use Rattle.defs.specs.declared.answer.Answer.the-variants.{Done, StreamBlocked, StreamFailed}
+
+-- how many bytes an answer takes: a would-block and a failure take none
+abbrev pub counted : StreamAnswer → ℕ
+counted (Count n) = n
+counted WouldBlock = 0
+counted Failed = 0
+
+-- how a direct call ends by the answer to its first write: 01, answer 10, "the answer tells which"
+abbrev pub stoppedBy : StreamAnswer → Answer
+stoppedBy (Count n) = Done
+stoppedBy WouldBlock = StreamBlocked
+stoppedBy Failed = StreamFailed

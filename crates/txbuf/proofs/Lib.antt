@@ -1,0 +1,4 @@
+pub mod RecordLaws
+pub mod RingLaws
+pub mod PushLaws
+pub mod FlushLaws

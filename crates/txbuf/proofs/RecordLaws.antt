@@ -1,0 +1,50 @@
+-- Laws of the ring's record: what soundness says, and what is held. Assumes nothing.
+use Prim.Native.Nat.{ℕ, zero, suc, _+_, _-_, _%_, _^_, _<_, _≤_}
+use mathlib.Core.Path.{_≡_, refl, sym, ap, _∙_}
+use mathlib.Core.Bool.{Bool, true, false, not, _&&_}
+use mathlib.Core.List.{List}
+use native.Mathlib.Omega.{arith}
+use lib.Dec.{leb, eqb}
+use lib.ListN.{length}
+use borrow.Author.Tests.{leb-true, eqb-true, le-leb, eq-eqb}
+use Rattle.defs.specs.Ladder.{doorOf}
+use Rattle.defs.specs.Limits.{minRing, maxRing, isRingSize}
+use Rattle.defs.proofs.Basics.{both}
+use Rattle.defs.proofs.LimitLaws.{ring-size}
+use Rattle.txbuf.specs.Record.{usedOf, soundRecord, soundOf, recordAnswer, heldFrom, held}
+use Rattle.defs.specs.declared.answer.Answer.{Answer}
+use Rattle.txbuf.specs.declared.record.TxBuf.{TxBuf}
+
+-- what soundness says, over a storage of n bytes
+pub record Sound (b : TxBuf) (n : ℕ) : Type 0 where
+  pub sized : isRingSize (b .size) ≡ true
+  pub least : minRing ≤ b .size
+  pub most : b .size ≤ maxRing
+  pub within : usedOf b ≤ b .size
+  pub whole : n ≡ b .size
+
+pub sound-says : (b : TxBuf) (n : ℕ) → soundOf b n ≡ true → Sound b n
+unfolding soundOf soundRecord
+sound-says b n e =
+    let u = both _ _ e in
+    let v = both _ _ (u .0) in
+    let r = ring-size (b .size) (v .0) in
+    record { sized = v .0; least = r .least; most = r .most; within = leb-true _ _ (v .1); whole = eqb-true _ _ (u .1) }
+
+pub is-sound : (b : TxBuf) (n : ℕ) → Sound b n → soundOf b n ≡ true
+unfolding soundOf soundRecord
+is-sound b n s = simp (s .sized, le-leb _ _ (s .within), eq-eqb _ _ (s .whole))
+
+-- the answer of a call that tests nothing but its record
+pub record-answer : (a : Answer) (t s : Bool) → a ≡ doorOf (not t) false false false → t ≡ s → a ≡ recordAnswer s
+unfolding recordAnswer
+record-answer a t s e f = e ∙ ap (λ (x : Bool). doorOf (not x) false false false) f
+
+pub held-from-length : (store : List ℕ) (size t n : ℕ) → length (heldFrom store size t n) ≡ n
+unfolding heldFrom
+held-from-length store size t zero = refl
+held-from-length store size t (suc n) = ap suc (held-from-length store size (suc t) n)
+
+pub held-length : (b : TxBuf) (store : List ℕ) → length (held b store) ≡ usedOf b
+unfolding held
+held-length b store = held-from-length store (b .size) (b .tail) (usedOf b)

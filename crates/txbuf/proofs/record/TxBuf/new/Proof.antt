@@ -1,0 +1,21 @@
+use borrow.Author.Needs.{needs}
+use Rattle.defs.proofs.AnswerLaws.{outcome-kept, outcome-done}
+use Rattle.txbuf.specs.Record.{newOf}
+use Rattle.txbuf.proofs.RecordLaws.{record-answer}
+use Rattle.txbuf.proofs.record.TxBuf.new.Statement.{statement}
+use Rattle.txbuf.proofs.record.TxBuf.new.Tie as tie
+
+returns : tie.Need-returns
+unfolding newOf
+returns c =
+    let d = c .before in
+    outcome-kept (λ t r. record { answer = t; ring = r }) _ _ _ _ (record-answer _ _ _ (d .door .ensures) (d .before .is-ring-size .ensures)) (c .match .keys2)
+
+returns-2 : tie.Need-returns-2
+unfolding newOf
+returns-2 c =
+    let d = c .before .before in
+    outcome-done (λ t r. record { answer = t; ring = r }) _ _ _ _ (record-answer _ _ _ (d .door .ensures) (d .before .is-ring-size .ensures)) (c .enum-told .given .1)
+
+pub new-spec : {M : Type 1} → statement M
+new-spec = tie.close (tie.spec (search needs) (search needs) (λ c. search needs) returns returns-2)

@@ -1,0 +1,102 @@
+// The ring's record: what is sound, and how much it holds.
+ghost use mathlib.Core.Path.{_≡_};
+ghost use Rattle.defs.specs.Answer.{told};
+ghost use Rattle.txbuf.specs.Record.{usedOf, soundRecord, soundOf, NewLeft, NewSays, LenLeft, LenSays, EmptyLeft, EmptySays};
+use crate::push::Pushed;
+use defs::Answer;
+use defs::limits;
+
+// Offsets into the storage are head and tail modulo the size; both only rise, and wrap at 2^32.
+pub struct TxBuf {
+    pub size: u32,
+    pub head: u32,
+    pub tail: u32,
+}
+
+pub struct Len {
+    pub answer: Answer,
+    pub len: u32,
+}
+
+pub struct Empty {
+    pub answer: Answer,
+    pub is_empty: bool,
+}
+
+impl TxBuf {
+    // An empty ring of a given size; the all-zero record where no ring has that size.
+    pub fn new(size: u32) -> Pushed
+        ensures { λ r. ⌜ NewSays size (record { answer = told (r .answer); ring = r .ring }) ⌝ }
+    {
+        let bad = !limits::is_ring_size(size);
+        let answer = defs::door(bad, false, false, false);
+        let Answer::Done = answer else {
+            return Pushed {
+                answer,
+                ring: TxBuf {
+                    size: 0,
+                    head: 0,
+                    tail: 0,
+                },
+            };
+        };
+        Pushed {
+            answer,
+            ring: TxBuf {
+                size,
+                head: 0,
+                tail: 0,
+            },
+        }
+    }
+
+    // How many bytes a sound ring holds.
+    pub fn used(self) -> u32
+        ensures { λ r. ⌜ r ≡ usedOf self ⌝ }
+    {
+        defs::wrapping_sub(self.head, self.tail)
+    }
+
+    // Whether the record is sound, no storage being lent.
+    pub fn is_sound(self) -> bool
+        ensures { λ r. ⌜ r ≡ soundRecord self ⌝ }
+    {
+        limits::is_ring_size(self.size) & (self.used() <= self.size)
+    }
+
+    // Whether it is sound over a storage of so many bytes.
+    pub fn is_sound_over(self, storage: usize) -> bool
+        ensures { λ r. ⌜ r ≡ soundOf self storage ⌝ }
+    {
+        self.is_sound() & (storage == self.size as usize)
+    }
+
+    pub fn len(self) -> Len
+        ensures { λ r. ⌜ LenSays self (record { answer = told (r .answer); len = r .len }) ⌝ }
+    {
+        let answer = defs::door(!self.is_sound(), false, false, false);
+        let Answer::Done = answer else {
+            return Len { answer, len: 0 };
+        };
+        Len {
+            answer,
+            len: self.used(),
+        }
+    }
+
+    pub fn is_empty(self) -> Empty
+        ensures { λ r. ⌜ EmptySays self (record { answer = told (r .answer); «is_empty» = r .«is_empty» }) ⌝ }
+    {
+        let answer = defs::door(!self.is_sound(), false, false, false);
+        let Answer::Done = answer else {
+            return Empty {
+                answer,
+                is_empty: false,
+            };
+        };
+        Empty {
+            answer,
+            is_empty: self.used() == 0,
+        }
+    }
+}
