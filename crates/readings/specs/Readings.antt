@@ -1,5 +1,5 @@
 -- 01's starred readings at each edge, in one list: each letter's from the crate that decides it, computed from the specifications.
--- So far a's bytes, e's threshold rule and h. Assumes nothing.
+-- So far a's bytes, the ring's share of b, c and d, e's threshold rule, f on a ring by itself, and h. Assumes nothing.
 use Prim.Native.Nat.{_+_}
 use mathlib.Core.Path.{_≡_}
 use mathlib.Core.List.{List, _++_}
@@ -7,13 +7,14 @@ use lib.ListN.{length}
 use Rattle.defs.specs.Reading.{Reading, Hold}
 use Rattle.defs.specs.Edges.{readingE, readingH}
 use Rattle.packet.specs.Edges.{readingA}
+use Rattle.txbuf.specs.Edges.{readingBCD, readingF}
 
 unfoldable pub readings : List Reading
-readings = readingA ++ readingE ++ readingH
+readings = readingA ++ readingBCD ++ readingE ++ readingF ++ readingH
 
--- none is left out: two of a, three of e, one of h
+-- none is left out: two of a, one each of b, c and d, three of e, three of f, one of h
 abbrev pub NoneLeftOut : Type 0
-NoneLeftOut = length readings ≡ 2 + 3 + 1
+NoneLeftOut = length readings ≡ 2 + 3 + 3 + 3 + 1
 
 -- every starred reading is what the specifications say
 abbrev pub ReadingsHold : Type 0

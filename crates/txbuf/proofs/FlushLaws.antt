@@ -9,7 +9,7 @@ use native.Mathlib.Nat.{mod-lt, mod-eq-of-lt, mod-add-mod, add-zero}
 use lib.Dec.{ltb, eqb}
 use lib.ListN.{length, take, drop, length-take, length-drop, length-append, take-append-drop, drop-of-length-le}
 use lib.Seq.{take-all, take-take, take-add, drop-drop, drop-at, length-take-le}
-use borrow.Author.Tests.{lt-ltb, le-ltb, ltb-true, ltb-false, eq-eqb, ne-eqb}
+use borrow.Author.Tests.{lt-ltb, le-ltb, ltb-true, ltb-false, eq-eqb, ne-eqb, not-false}
 use Rattle.defs.specs.Choice.{when}
 use Rattle.defs.specs.Answer.{Told, told, isDone, whenDone}
 use Rattle.defs.specs.Limits.{maxRing}
@@ -25,12 +25,13 @@ use Rattle.defs.specs.declared.stream.StreamAnswers.{StreamAnswers}
 use Rattle.defs.proofs.StreamLaws.{NotCount, takes-none, stops, stopped-takes-none}
 use Rattle.defs.proofs.Basics.{never, lt-or-ge, true-or-false, neither}
 use Rattle.defs.proofs.ChoiceLaws.{when-true, when-false, when-same}
-use Rattle.defs.proofs.AnswerLaws.{NotDone, not-done, is-done, done-is-done, when-done, when-not-done}
-use Rattle.defs.proofs.LadderLaws.{lowest-passed, late-passed}
+use Rattle.defs.proofs.AnswerLaws.{NotDone, not-done, is-done, done-is-done, when-done, when-not-done, told-tells-apart}
+use Rattle.defs.proofs.LadderLaws.{lowest-passed, door-passed, late-passed}
 use Rattle.defs.proofs.CopyLaws.{copied-fits}
 use Rattle.defs.proofs.WrappingLaws.{keeps-place}
-use Rattle.txbuf.specs.Record.{usedOf, soundOf, recordAnswer, heldFrom, held}
+use Rattle.txbuf.specs.Record.{Wide, usedOf, soundOf, recordAnswer, heldFrom, held}
 use Rattle.txbuf.specs.Flush.{pieceLen, firstPiece, takenBy, overBy, endsBy, FlushIn, FlushLeft, inTurn, flushCount, flushOver, flushAnswer, advanced, flushDone, flushKept, flushOf, FlushSays, finishAnswer, finishOf}
+use Rattle.txbuf.specs.Promises.{TakesOldest, FlushTakesOldest, FlushProgresses, FirstPieceIsOldest}
 use Rattle.txbuf.specs.declared.record.TxBuf.{TxBuf}
 use Rattle.txbuf.specs.declared.flush.Flushed.{Flushed}
 use Rattle.txbuf.proofs.RecordLaws.{Sound, sound-says, is-sound, held-length}
@@ -40,11 +41,6 @@ use Rattle.txbuf.proofs.RingLaws.{held-cong, held-run, held-take, held-
 
 used-advanced : (h t k : ℕ) → h < 2 ^ 32 → t < 2 ^ 32 → k ≤ wsub h t → wsub h (wadd t k) ≡ wsub h t - k
 used-advanced h t k p q l = omega arith
-
--- the counters of a record that code holds
-pub record Wide (b : TxBuf) : Type 0 where
-  pub head : b .head < 2 ^ 32
-  pub tail : b .tail < 2 ^ 32
 
 pub advanced-none : (b : TxBuf) → Wide b → advanced b 0 ≡ b
 advanced-none b w = ap (λ (i : ℕ). record { size = b .size; head = b .head; tail = i }) (ap (λ (i : ℕ). i % 2 ^ 32) (add-zero (b .tail)) ∙ mod-eq-of-lt (w .tail))
@@ -643,17 +639,79 @@ pub something-held : (b : TxBuf) (st : List ℕ) → Sound b (length st) → Wid
 something-held b st s w n =
     ⊎-elim (λ (l : 0 < usedOf b). l) (λ (l : usedOf b ≤ 0). let m = piece-length b st s w in absurd (n (omega arith))) (lt-or-ge 0 (usedOf b))
 
+-- what an answer that is Done says
+sound-done : (i : FlushIn) → flushAnswer i ≡ Done → Sound (i .ring) (length (i .store))
+unfolding flushAnswer recordAnswer
+sound-done i d =
+    let r = lowest-passed _ _ (lowest-passed _ _ d .0) .0 in
+    sound-says _ _ (not-false _ (door-passed _ _ _ _ r .record-ok))
+
+not-over : (i : FlushIn) → flushAnswer i ≡ Done → flushOver i ≡ false
+unfolding flushAnswer
+not-over i d = late-passed _ _ (lowest-passed _ _ (lowest-passed _ _ d .0) .1) .answer-ok
+
+count-le : (i : FlushIn) → flushAnswer i ≡ Done → flushCount i ≤ usedOf (i .ring)
+unfolding flushCount flushOver
+count-le i d = taken-le (i .ring .size) (inTurn i) (i .ring .tail) (usedOf (i .ring)) (not-over i d)
+
 -- no more is counted than is held
-pub count-within : (i : FlushIn) → flushOf i .count ≤ usedOf (i .ring)
-unfolding flushAnswer flushCount flushOver
+count-within : (i : FlushIn) → flushOf i .count ≤ usedOf (i .ring)
 count-within i =
     ⊎-elim
     (λ (t : isDone (flushAnswer i) ≡ true).
     let d = is-done (flushAnswer i) t in
-    let o = late-passed _ _ (lowest-passed _ _ (lowest-passed _ _ d .0) .1) .answer-ok in
-    rw (flush-is-done i d, done-at i (flushCount i) refl) (taken-le (i .ring .size) (inTurn i) (i .ring .tail) (usedOf (i .ring)) o))
+    rw (flush-is-done i d, done-at i (flushCount i) refl) (count-le i d))
     (λ (t : isDone (flushAnswer i) ≡ false). rw (← flush-refused i (flushAnswer i) refl t) (omega arith))
     (true-or-false (isDone (flushAnswer i)))
 
 pub count-small : (i : FlushIn) (left : FlushLeft) → FlushSays i left → left .count ≤ usedOf (i .ring)
 count-small i left e = rw (ap (λ (o : FlushLeft). o .count) e) (count-within i)
+
+-- ---- the promises
+
+flush-told : (i : FlushIn) → flushOf i .answer ≡ told (flushAnswer i)
+flush-told i =
+    ⊎-elim
+    (λ (t : isDone (flushAnswer i) ≡ true). let d = is-done (flushAnswer i) t in rw (flush-is-done i d, done-at i (flushCount i) refl) (ap told (sym d)))
+    (λ (t : isDone (flushAnswer i) ≡ false). rw (← flush-refused i (flushAnswer i) refl t))
+    (true-or-false (isDone (flushAnswer i)))
+
+oldest : (i : FlushIn) → Wide (i .ring) → TakesOldest i (flushOf i)
+oldest i w =
+    ⊎-elim
+    (λ (t : isDone (flushAnswer i) ≡ true).
+    let d = is-done (flushAnswer i) t in
+    let e : flushOf i ≡ doneAt i (flushCount i) = flush-is-done i d ∙ done-at i (flushCount i) refl in
+    let hd : List ℕ = held (i .ring) (i .store) in
+    rw e
+    (record {
+      front = refl;
+      rest =
+          ap (λ (x : List ℕ). take (flushCount i) hd ++ x) (advanced-held (i .ring) (i .store) (sound-done i d) w (flushCount i) (count-le i d))
+          ∙ take-append-drop (flushCount i) hd;
+    }))
+    (λ (t : isDone (flushAnswer i) ≡ false). rw (← flush-refused i (flushAnswer i) refl t) (record { front = refl; rest = refl }))
+    (true-or-false (isDone (flushAnswer i)))
+
+pub flush-takes-oldest : FlushTakesOldest
+flush-takes-oldest i left w says = rw says (oldest i w)
+
+taken-some : (i : FlushIn) (n : ℕ) → i .answers .first ≡ Count (suc n) → 0 < usedOf (i .ring) → 0 < flushCount i
+unfolding flushCount takenBy
+taken-some i n e l = rw (when-false _ _ _ (not-none (usedOf (i .ring)) l)) (let c = ap counted e in omega arith)
+
+fewer : (u n c : ℕ) → u ≡ n - c → 0 < c → 0 < n → u < n
+fewer u n c e p q = omega arith
+
+pub flush-progresses : FlushProgresses
+flush-progresses i left n w says done e l =
+    let d : flushAnswer i ≡ Done = told-tells-apart _ _ (sym (flush-told i) ∙ ap (λ (o : FlushLeft). o .answer) (sym says) ∙ done) in
+    let u : usedOf (left .ring) ≡ usedOf (i .ring) - flushCount i =
+    ap (λ (o : FlushLeft). usedOf (o .ring)) (says ∙ flush-is-done i d ∙ done-at i (flushCount i) refl)
+    ∙ advanced-used (i .ring) (i .store) (sound-done i d) w (flushCount i) (count-le i d) in
+    let p = taken-some i n e l in
+    let q = count-le i d in
+    fewer (usedOf (left .ring)) (usedOf (i .ring)) (flushCount i) u p l
+
+pub first-piece-is-oldest : FirstPieceIsOldest
+first-piece-is-oldest b store w s = piece-held b store (sound-says b (length store) s) w

@@ -2,3 +2,4 @@ pub mod RecordLaws
 pub mod RingLaws
 pub mod PushLaws
 pub mod FlushLaws
+pub mod Promises

@@ -20,12 +20,13 @@ use Rattle.defs.specs.declared.answer.Answer.{Answer}
 use Rattle.defs.specs.declared.answer.Answer.the-variants.{Done, TxBufFull}
 use Rattle.defs.proofs.Basics.{lt-or-ge, true-or-false}
 use Rattle.defs.proofs.ChoiceLaws.{when-true, when-false}
-use Rattle.defs.proofs.AnswerLaws.{NotDone, not-done, when-done, when-not-done}
+use Rattle.defs.proofs.AnswerLaws.{NotDone, not-done, is-done, when-done, when-not-done, told-tells-apart}
 use Rattle.defs.proofs.LadderLaws.{lowest-passed, door-passed}
 use Rattle.defs.proofs.LimitLaws.{packet-length}
 use Rattle.defs.proofs.WrappingLaws.{keeps-place}
-use Rattle.txbuf.specs.Record.{usedOf, soundOf, heldFrom, held}
+use Rattle.txbuf.specs.Record.{Wide, usedOf, soundOf, heldFrom, held}
 use Rattle.txbuf.specs.Push.{runs, written, PushIn, PushLeft, pushAnswer, pushAnswerOf, pushDone, pushKept, pushOf, PushSays}
+use Rattle.txbuf.specs.Promises.{PushAppends}
 use Rattle.txbuf.specs.declared.record.TxBuf.{TxBuf}
 use Rattle.txbuf.proofs.RecordLaws.{Sound, sound-says}
 use Rattle.txbuf.proofs.RingLaws.{write-cong, held-write, two-runs}
@@ -104,22 +105,35 @@ used-after h t m p q l = omega arith
 pub head-at : (b : TxBuf) (n : ℕ) → Sound b n → b .tail < 2 ^ 32 → b .head % b .size ≡ (b .tail + usedOf b) % b .size
 head-at b n s t = sym (keeps-place .difference (b .size) (b .head) (b .tail) (s .sized) t) ∙ ap (λ (k : ℕ). k % b .size) (let e : usedOf b + b .tail ≡ b .tail + usedOf b = omega arith in e)
 
-pub push-appends : (i : PushIn) → i .ring .head < 2 ^ 32 → i .ring .tail < 2 ^ 32 → pushAnswerOf i ≡ Done
-    → held (pushOf i .ring) (pushOf i .store) ≡ held (i .ring) (i .store) ++ i .src
+push-done-appends : (i : PushIn) → Wide (i .ring) → pushAnswerOf i ≡ Done → held (pushOf i .ring) (pushOf i .store) ≡ held (i .ring) (i .store) ++ i .src
 unfolding held pushDone
-push-appends i h t d =
+push-done-appends i wide d =
     let b = i .ring in
     let st : List ℕ = i .store in
     let src : List ℕ = i .src in
     let r = ready b (length st) (length src) d in
     let w : length st ≡ b .size = r .sound .whole in
-    let u : wsub (wadd (b .head) (length src)) (b .tail) ≡ usedOf b + length src = used-after (b .head) (b .tail) (length src) h t (let s = r .sound in omega arith) in
+    let u : wsub (wadd (b .head) (length src)) (b .tail) ≡ usedOf b + length src = used-after (b .head) (b .tail) (length src) (wide .head) (wide .tail) (let s = r .sound in omega arith) in
     let x : runs st (b .head % b .size) src ≡ written st (b .size) (b .tail + usedOf b) src =
     ap (λ (n : ℕ). runs st (b .head % n) src) (sym w)
     ∙ two-runs st src (b .head) (let s = r .sound in omega arith) (omega arith)
     ∙ ap (λ (n : ℕ). written st n (b .head) src) w
-    ∙ write-cong (b .size) src st _ _ (head-at b (length st) (r .sound) t) in
+    ∙ write-cong (b .size) src st _ _ (head-at b (length st) (r .sound) (wide .tail)) in
     rw (push-is-done i d)
     (ap (λ (n : ℕ). heldFrom (runs st (b .head % b .size) src) (b .size) (b .tail) n) u
     ∙ ap (λ (y : List ℕ). heldFrom y (b .size) (b .tail) (usedOf b + length src)) x
     ∙ held-write (b .size) src st (b .tail) (usedOf b) (omega arith) w)
+
+-- an outcome that is told as done comes of an answer that is Done
+push-told : (i : PushIn) → pushOf i .answer ≡ told (pushAnswerOf i)
+unfolding pushOf pushDone pushKept
+push-told i =
+    ⊎-elim
+    (λ (t : isDone (pushAnswerOf i) ≡ true). let d = is-done (pushAnswerOf i) t in rw (when-done (pushAnswerOf i) (pushDone i) (pushKept i) d) (ap told (sym d)))
+    (λ (t : isDone (pushAnswerOf i) ≡ false). rw (when-not-done (pushAnswerOf i) (pushDone i) (pushKept i) t))
+    (true-or-false (isDone (pushAnswerOf i)))
+
+pub push-appends : PushAppends
+push-appends i left wide says e =
+    let d : pushAnswerOf i ≡ Done = told-tells-apart _ _ (sym (push-told i) ∙ ap (λ (o : PushLeft). o .answer) (sym says) ∙ e) in
+    rw says (push-done-appends i wide d)

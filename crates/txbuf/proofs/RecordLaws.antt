@@ -1,9 +1,12 @@
 -- Laws of the ring's record: what soundness says, and what is held. Assumes nothing.
-use Prim.Native.Nat.{ℕ, zero, suc, _+_, _-_, _%_, _^_, _<_, _≤_}
+use Prim.Native.Nat.{ℕ, zero, suc, _+_, _-_, _%_, _^_, _<_, _≤_, min}
 use mathlib.Core.Path.{_≡_, refl, sym, ap, _∙_}
 use mathlib.Core.Bool.{Bool, true, false, not, _&&_}
 use mathlib.Core.List.{List}
 use native.Mathlib.Omega.{arith}
+use native.Mathlib.Nat.{mod-lt}
+use mir.Val.{Fits}
+use mir.Syntax.{w64}
 use lib.Dec.{leb, eqb}
 use lib.ListN.{length}
 use borrow.Author.Tests.{leb-true, eqb-true, le-leb, eq-eqb}
@@ -39,6 +42,17 @@ is-sound b n s = simp (s .sized, le-leb _ _ (s .within), eq-eqb _ _ (s .whole))
 pub record-answer : (a : Answer) (t s : Bool) → a ≡ doorOf (not t) false false false → t ≡ s → a ≡ recordAnswer s
 unfolding recordAnswer
 record-answer a t s e f = e ∙ ap (λ (x : Bool). doorOf (not x) false false false) f
+
+-- an offset into the storage, whichever counter it is of
+pub offset-fits : (x size : ℕ) → 0 < size → size ≤ maxRing → Fits w64 (x % size)
+offset-fits x size p l = let m = mod-lt x p in omega arith
+
+pub offset-in : (x size n : ℕ) → 0 < size → n ≡ size → x % size < n
+offset-in x size n p e = let m = mod-lt x p in omega arith
+
+-- a part from an offset, no longer than to the end
+pub part-within : (at n len u : ℕ) → n ≡ min (len - at) u → at < len → at + n ≤ len
+part-within at n len u e l = omega arith
 
 pub held-from-length : (store : List ℕ) (size t n : ℕ) → length (heldFrom store size t n) ≡ n
 unfolding heldFrom

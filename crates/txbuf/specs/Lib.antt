@@ -1,3 +1,5 @@
 pub mod Record
 pub mod Push
 pub mod Flush
+pub mod Edges
+pub mod Promises

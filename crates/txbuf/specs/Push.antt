@@ -61,3 +61,15 @@ pushOf i = whenDone (pushAnswerOf i) (pushDone i) (pushKept i)
 -- THE STATEMENT of `push`
 abbrev pub PushSays : PushIn → PushLeft → Type 0
 PushSays i left = left ≡ pushOf i
+
+-- ---- the same by number, for a host: the head is its to move
+
+pub record NumberedLeft : Type 0 where
+  pub number : ℕ
+  pub store : List ℕ
+
+abbrev pub numbered : PushLeft → NumberedLeft
+numbered left = record { number = left .answer .number; store = left .store }
+
+abbrev pub NumberedSays : PushIn → NumberedLeft → Type 0
+NumberedSays i left = left ≡ numbered (pushOf i)

@@ -1,5 +1,5 @@
 -- The ring's record (01, "The ring"): what is sound, what it holds, and the calls that only look at it. Assumes nothing.
-use Prim.Native.Nat.{ℕ, zero, suc, _%_}
+use Prim.Native.Nat.{ℕ, zero, suc, _%_, _^_, _<_}
 use mathlib.Core.Path.{_≡_}
 use mathlib.Core.Bool.{Bool, true, false, not, _&&_}
 use mathlib.Core.List.{List, [], _∷_}
@@ -15,6 +15,11 @@ use Rattle.txbuf.specs.declared.record.TxBuf.{TxBuf}
 -- how many bytes are held: head minus tail, 32-bit wrapping
 abbrev pub usedOf : TxBuf → ℕ
 usedOf b = wsub (b .head) (b .tail)
+
+-- the counters are 32 bits wide, as in every record that code holds
+pub record Wide (b : TxBuf) : Type 0 where
+  pub head : b .head < 2 ^ 32
+  pub tail : b .tail < 2 ^ 32
 
 -- 01, "The numbers of a connection": the size in range, and no more held than that
 unfoldable pub soundRecord : TxBuf → Bool

@@ -7,6 +7,7 @@ use defs::Answer;
 use defs::limits;
 
 // Offsets into the storage are head and tail modulo the size; both only rise, and wrap at 2^32.
+#[repr(C)]
 pub struct TxBuf {
     pub size: u32,
     pub head: u32,

@@ -7,10 +7,10 @@ use Rattle.defs.specs.declared.answer.Answer.the-variants.{Done, BadRecord, Bad
 use Rattle.txbuf.specs.Flush.{pieceLen, firstPiece, FlushIn, finishOf}
 use Rattle.txbuf.specs.declared.flush.Flushed.{Flushed}
 use Rattle.txbuf.proofs.RecordLaws.{Sound, sound-says}
-use Rattle.txbuf.proofs.FlushLaws.{Wide, piece-length, nothing-held, something-held, stopped-left, flush-unsound, flush-empty, flush-stops, flush-bad, flush-short, whole-left, held-falls, rest-small, count-small}
+use Rattle.txbuf.proofs.FlushLaws.{piece-length, nothing-held, something-held, stopped-left, flush-unsound, flush-empty, flush-stops, flush-bad, flush-short, whole-left, held-falls, rest-small, count-small}
 use borrow.Author.Needs.{needs}
 use native.Mathlib.Omega.{arith}
-use Rattle.txbuf.specs.Record.{usedOf}
+use Rattle.txbuf.specs.Record.{Wide, usedOf}
 use Prim.Native.Nat.{ℕ, _<_}
 use borrow.Fn.Kinds.{In}
 use borrow.Fn.PlainCycle.{Measures, is, falls, and}

@@ -1,12 +1,11 @@
 -- `first_piece` meets its contract.
-use Prim.Native.Nat.{_<_}
+use Prim.Native.Nat.{ℕ, _<_, _≤_}
 use mathlib.Core.Path.{sym, _∙_}
 use native.Mathlib.Omega.{arith}
-use native.Mathlib.Nat.{mod-lt}
 use denote.Ref.{now}
 use lib.ListN.{length}
 use borrow.Author.Needs.{needs}
-use Rattle.txbuf.proofs.RecordLaws.{Sound, sound-says}
+use Rattle.txbuf.proofs.RecordLaws.{Sound, sound-says, offset-fits, offset-in, part-within}
 use Rattle.txbuf.proofs.FlushLaws.{piece-is, no-piece}
 use Rattle.txbuf.proofs.record.TxBuf.first_piece.Statement.{statement}
 use Rattle.txbuf.proofs.record.TxBuf.first_piece.Tie as tie
@@ -15,38 +14,28 @@ use Rattle.txbuf.proofs.record.TxBuf.first_piece.Tie as tie
 fit : (c : tie.Then1) → let a = c .before .before .before .args in Sound (a .self) (length (now (a .storage)))
 fit c = sound-says _ _ (sym (c .before .is-sound-over .ensures) ∙ c .if1 .taken)
 
+lt-le : {a b : ℕ} → a < b → a ≤ b
+lt-le l = omega arith
+
 rem-at : tie.Need-rem-at
 rem-at c = let s = fit (c .before) in omega arith
 
 cast-at : tie.Need-cast-at
-cast-at c =
-    let b = c .before .before .before .before .args .self in
-    let s = fit (c .before) in
-    let p : 0 < b .size = omega arith in
-    omega (arith, mod-lt (b .tail) p)
+cast-at c = let s = fit (c .before) in offset-fits _ _ (omega arith) (s .most)
 
 sub-smaller : tie.Need-sub-smaller
-sub-smaller c =
-    let b = c .before .before .before .before .args .self in
-    let s = fit (c .before) in
-    let p : 0 < b .size = omega arith in
-    omega (arith, mod-lt (b .tail) p)
+sub-smaller c = let s = fit (c .before) in lt-le (offset-in _ _ _ (omega arith) (s .whole))
 
 add-end : tie.Need-add-end
 add-end c =
-    let t = c .before .before .before in
-    let b = t .before .before .before .args .self in
-    let s = fit t in
-    let p : 0 < b .size = omega arith in
-    omega (arith, mod-lt (b .tail) p)
+    let s = fit (c .before .before .before) in
+    let l = part-within _ _ _ _ (c .smaller .ensures) (offset-in _ _ _ (omega arith) (s .whole)) in
+    omega arith
 
 part-result-end : tie.Need-part-result-end
 part-result-end c =
-    let t = c .before .before .before in
-    let b = t .before .before .before .args .self in
-    let s = fit t in
-    let p : 0 < b .size = omega arith in
-    omega (arith, mod-lt (b .tail) p)
+    let s = fit (c .before .before .before) in
+    part-within _ _ _ _ (c .smaller .ensures) (offset-in _ _ _ (omega arith) (s .whole))
 
 returns : tie.Need-returns
 returns c =

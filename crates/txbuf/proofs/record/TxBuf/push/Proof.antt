@@ -1,11 +1,10 @@
 -- `push` meets its contract: refused, or written in two runs.
-use Prim.Native.Nat.{_<_}
 use mathlib.Core.Path.{sym, _∙_}
 use native.Mathlib.Omega.{arith}
-use native.Mathlib.Nat.{mod-lt, mod-le}
 use denote.Ref.{now}
 use borrow.Author.Needs.{needs}
 use lib.ListN.{length}
+use Rattle.txbuf.proofs.RecordLaws.{offset-fits, offset-in}
 use Rattle.txbuf.proofs.PushLaws.{Ready, ready, push-refused, push-left}
 use Rattle.txbuf.proofs.record.TxBuf.push.Statement.{statement}
 use Rattle.txbuf.proofs.record.TxBuf.push.Tie as tie
@@ -22,17 +21,10 @@ rem-at : tie.Need-rem-at
 rem-at c = let r = fit (c .before) in omega arith
 
 cast-at : tie.Need-cast-at
-cast-at c =
-    let a = c .before .before .before .before .before .before .args .self in
-    let r = fit (c .before) in
-    omega (arith, mod-le (a .head) (a .size))
+cast-at c = let r = fit (c .before) in offset-fits _ _ (omega arith) (r .sound .most)
 
 write-runs-requires : tie.Need-write-runs-requires
-write-runs-requires c κs =
-    let a = c .before .before .before .before .before .before .before .args .self in
-    let r = fit (c .before .before) in
-    let p : 0 < a .size = omega arith in
-    omega (arith, mod-lt (a .head) p)
+write-runs-requires c κs = let r = fit (c .before .before) in offset-in _ _ _ (omega arith) (r .sound .whole)
 
 cast-wrapping-add : tie.Need-cast-wrapping-add
 cast-wrapping-add c = let r = fit (c .before .before .before .before .before) in omega arith

@@ -1,0 +1,53 @@
+-- The promises of specs/Promises, each by its law. Assumes nothing.
+use mathlib.Core.Path.{refl}
+use Rattle.defs.specs.Choice.{when}
+use Rattle.defs.specs.Answer.{isDone, whenDone}
+use Rattle.defs.specs.Limits.{isRingSize, isPacketLength}
+use Rattle.defs.specs.Ladder.{doorOf, lateOf, lowestOf}
+use Rattle.defs.specs.Copying.{copied}
+use Rattle.defs.proofs.Pins.{by-equation}
+use Rattle.txbuf.specs.Record.{soundRecord, soundOf, recordAnswer, heldFrom, held}
+use Rattle.txbuf.specs.Push.{runs, pushAnswer, pushDone, pushKept, pushOf}
+use Rattle.txbuf.specs.Flush.{firstPiece, takenBy, overBy, endsBy, flushCount, flushOver, flushAnswer, flushDone, flushKept, flushOf}
+use Rattle.txbuf.specs.Edges.{readingBCD, readingF}
+use Rattle.txbuf.specs.Promises.{TwoRunsAreOneWrite, HeldIsCounted, PushAppends, FirstPieceIsOldest, FlushTakesOldest, FlushProgresses, EdgesHold, EachCallPinned}
+use Rattle.txbuf.proofs.RecordLaws as records
+use Rattle.txbuf.proofs.RingLaws as rings
+use Rattle.txbuf.proofs.PushLaws as pushes
+use Rattle.txbuf.proofs.FlushLaws as flushes
+
+pub two-runs-are-one-write : TwoRunsAreOneWrite
+two-runs-are-one-write = rings.two-runs
+
+pub held-is-counted : HeldIsCounted
+held-is-counted = records.held-length
+
+pub push-appends : PushAppends
+push-appends = pushes.push-appends
+
+pub first-piece-is-oldest : FirstPieceIsOldest
+first-piece-is-oldest = flushes.first-piece-is-oldest
+
+pub flush-takes-oldest : FlushTakesOldest
+flush-takes-oldest = flushes.flush-takes-oldest
+
+pub flush-progresses : FlushProgresses
+flush-progresses = flushes.flush-progresses
+
+pub edges-hold : EdgesHold
+unfolding when isDone whenDone isRingSize isPacketLength doorOf lateOf lowestOf copied soundRecord soundOf recordAnswer heldFrom held runs pushAnswer pushDone pushKept pushOf firstPiece takenBy overBy endsBy flushCount flushOver flushAnswer flushDone flushKept flushOf readingBCD readingF
+edges-hold = record { bcd = (refl, (refl, (refl, tt))); f = (refl, (refl, (refl, tt))) }
+
+pub each-call-pinned : EachCallPinned
+each-call-pinned = record {
+  new = by-equation _ _ _;
+  used = by-equation _ _ _;
+  is-sound = by-equation _ _ _;
+  is-sound-over = by-equation _ _ _;
+  len = by-equation _ _ _;
+  is-empty = by-equation _ _ _;
+  push = by-equation _ _ _;
+  vsock-ring-push = by-equation _ _ _;
+  first-piece = by-equation _ _ _;
+  flush-to = by-equation _ _ _;
+}

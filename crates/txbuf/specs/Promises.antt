@@ -1,0 +1,69 @@
+-- What this crate promises, in statements only; proofs/Promises has a line for each. Assumes nothing.
+use Prim.Native.Nat.{ℕ, suc, _%_, _^_, _<_, _≤_}
+use mathlib.Core.Path.{_≡_}
+use mathlib.Core.Bool.{Bool, true}
+use mathlib.Core.List.{List, _++_}
+use lib.ListN.{length, take, drop}
+use Rattle.defs.specs.Answer.{told}
+use Rattle.defs.specs.Pinned.{Pinned}
+use Rattle.defs.specs.Reading.{Hold}
+use Rattle.defs.specs.declared.answer.Answer.the-variants.{Done}
+use Rattle.defs.specs.declared.stream.StreamAnswer.the-variants.{Count}
+use Rattle.txbuf.specs.Record.{Wide, usedOf, soundRecord, soundOf, held, NewLeft, NewSays, LenLeft, LenSays, EmptyLeft, EmptySays}
+use Rattle.txbuf.specs.Push.{runs, written, PushIn, PushLeft, PushSays, NumberedLeft, NumberedSays}
+use Rattle.txbuf.specs.Flush.{pieceLen, firstPiece, FlushIn, FlushLeft, FlushSays}
+use Rattle.txbuf.specs.Edges.{readingBCD, readingF}
+use Rattle.txbuf.specs.declared.record.TxBuf.{TxBuf}
+
+-- the two runs of a push are one write, each byte at its place modulo the size
+abbrev pub TwoRunsAreOneWrite : Type 0
+TwoRunsAreOneWrite =
+    (store src : List ℕ) (h : ℕ) → 0 < length store → length src ≤ length store → runs store (h % length store) src ≡ written store (length store) h src
+
+-- as many bytes are held as `len` says
+abbrev pub HeldIsCounted : Type 0
+HeldIsCounted = (b : TxBuf) (store : List ℕ) → length (held b store) ≡ usedOf b
+
+-- a push that is done appends its bytes to those that are held
+abbrev pub PushAppends : Type 0
+PushAppends =
+    (i : PushIn) (left : PushLeft) → Wide (i .ring) → PushSays i left → left .answer ≡ told Done
+    → held (left .ring) (left .store) ≡ held (i .ring) (i .store) ++ i .src
+
+-- the first piece of a sound ring is the front of what is held
+abbrev pub FirstPieceIsOldest : Type 0
+FirstPieceIsOldest =
+    (b : TxBuf) (store : List ℕ) → Wide b → soundOf b (length store) ≡ true
+    → firstPiece b store ≡ take (pieceLen (b .size) (b .tail) (usedOf b)) (held b store)
+
+-- whatever a flush answers, the bytes that it counts are the oldest, they stand at the front of the outgoing buffer, and the rest is still held
+pub record TakesOldest (i : FlushIn) (left : FlushLeft) : Type 0 where
+  pub front : left .out ≡ take (left .count) (held (i .ring) (i .store)) ++ drop (left .count) (i .out)
+  pub rest : take (left .count) (held (i .ring) (i .store)) ++ held (left .ring) (i .store) ≡ held (i .ring) (i .store)
+
+abbrev pub FlushTakesOldest : Type 0
+FlushTakesOldest = (i : FlushIn) (left : FlushLeft) → Wide (i .ring) → FlushSays i left → TakesOldest i left
+
+-- a flush whose first write takes at least one byte leaves fewer held
+abbrev pub FlushProgresses : Type 0
+FlushProgresses =
+    (i : FlushIn) (left : FlushLeft) (n : ℕ) → Wide (i .ring) → FlushSays i left → left .answer ≡ told Done
+    → i .answers .first ≡ Count (suc n) → 0 < usedOf (i .ring) → usedOf (left .ring) < usedOf (i .ring)
+
+-- 01's readings at the edges of this crate
+pub record EdgesHold : Type 0 where
+  pub bcd : Hold readingBCD
+  pub f : Hold readingF
+
+-- every public call: any two outcomes that meet its contract are identical
+pub record EachCallPinned : Type 0 where
+  pub new : Pinned ℕ NewLeft NewSays
+  pub used : Pinned TxBuf ℕ (λ b r. r ≡ usedOf b)
+  pub is-sound : Pinned TxBuf Bool (λ b r. r ≡ soundRecord b)
+  pub is-sound-over : Pinned (TxBuf × ℕ) Bool (λ i r. r ≡ soundOf (i .0) (i .1))
+  pub len : Pinned TxBuf LenLeft LenSays
+  pub is-empty : Pinned TxBuf EmptyLeft EmptySays
+  pub push : Pinned PushIn PushLeft PushSays
+  pub vsock-ring-push : Pinned PushIn NumberedLeft NumberedSays
+  pub first-piece : Pinned (TxBuf × List ℕ) (List ℕ) (λ i r. r ≡ firstPiece (i .0) (i .1))
+  pub flush-to : Pinned FlushIn FlushLeft FlushSays
