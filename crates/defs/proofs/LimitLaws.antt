@@ -8,7 +8,7 @@ use native.Mathlib.Nat.{mul-add, add-mul, mul-suc, mul-zero, zero-mul, two-pow-s
 use lib.Pow.{pow-add}
 use lib.Dec.{leb, eqb}
 use borrow.Author.Tests.{leb-true, eqb-true, le-leb, eq-eqb}
-use Rattle.defs.specs.Limits.{minRing, maxRingLog, maxRing, isRingSize, maxPacket, isPacketLength, headerSize, isHeaderLength}
+use Rattle.defs.specs.Limits.{minRing, maxRingLog, maxRing, isRingSize, minTimeout, maxTimeout, isTimeout, maxClock, isClock, maxPacket, isPacketLength, headerSize, isHeaderLength}
 use Rattle.defs.specs.Promises.{Exactly, PowerOfTwo, RingSizes}
 use Rattle.defs.proofs.Basics.{both, lt-or-ge}
 
@@ -90,3 +90,11 @@ header-length bytes = (eqb-true bytes headerSize, eq-eqb bytes headerSize)
 pub packet-length : (bytes : ℕ) → Exactly (isPacketLength bytes ≡ true) (bytes ≤ maxPacket)
 unfolding isPacketLength
 packet-length bytes = (leb-true bytes maxPacket, le-leb bytes maxPacket)
+
+pub clock-within : (ms : ℕ) → Exactly (isClock ms ≡ true) (ms ≤ maxClock)
+unfolding isClock
+clock-within ms = (leb-true ms maxClock, le-leb ms maxClock)
+
+pub timeout-most : (ms : ℕ) → isTimeout ms ≡ true → ms ≤ maxTimeout
+unfolding isTimeout
+timeout-most ms e = leb-true ms maxTimeout (both (leb minTimeout ms) (leb ms maxTimeout) e .1)

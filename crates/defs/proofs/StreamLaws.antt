@@ -6,11 +6,14 @@ use mathlib.Core.List.{List, [], _∷_}
 use denote.Enum.Declared.{tagOf}
 use types.Run.{OneOf, miss}
 use Rattle.defs.specs.Answer.{isDone}
-use Rattle.defs.specs.Stream.{counted, stoppedBy}
+use Rattle.defs.specs.Stream.{counted, stoppedBy, readCounted}
 use Rattle.defs.specs.declared.stream.StreamAnswer.{StreamAnswer}
 use Rattle.defs.specs.declared.stream.StreamAnswer.the-variants.{Count, WouldBlock, Failed}
+use Rattle.defs.specs.declared.stream.ReadAnswer.{ReadAnswer}
+use Rattle.defs.specs.declared.stream.ReadAnswer.the-variants.{Count as ReadCount, WouldBlock as ReadWouldBlock, Failed as ReadFailed}
 use Rattle.defs.proofs.Basics.{never}
 use Rattle.defs.proofs.stream.StreamAnswer.{the-type}
+use Rattle.defs.proofs.stream.ReadAnswer.{the-type as read-type}
 
 abbrev otherKeys : List ℕ
 otherKeys = 1 ∷ 2 ∷ []
@@ -36,3 +39,12 @@ unfolding isDone
 stopped-takes-none (Count n) e = absurd (never (sym e))
 stopped-takes-none WouldBlock e = refl
 stopped-takes-none Failed e = refl
+
+-- the same of the answer to a read
+abbrev pub NotRead : ReadAnswer → Type 0
+NotRead a = OneOf otherKeys (tagOf read-type a)
+
+pub reads-none : (a : ReadAnswer) → NotRead a → readCounted a ≡ 0
+reads-none (ReadCount n) k = absurd (miss otherKeys 0 tt k)
+reads-none ReadWouldBlock k = refl
+reads-none ReadFailed k = refl

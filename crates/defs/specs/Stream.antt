@@ -2,6 +2,8 @@
 use Prim.Native.Nat.{ℕ}
 use Rattle.defs.specs.declared.stream.StreamAnswer.{StreamAnswer}
 use Rattle.defs.specs.declared.stream.StreamAnswer.the-variants.{Count, WouldBlock, Failed}
+use Rattle.defs.specs.declared.stream.ReadAnswer.{ReadAnswer}
+use Rattle.defs.specs.declared.stream.ReadAnswer.the-variants.{Count as ReadCount, WouldBlock as ReadWouldBlock, Failed as ReadFailed}
 use Rattle.defs.specs.declared.answer.Answer.{Answer}
 use Rattle.defs.specs.declared.answer.Answer.the-variants.{Done, StreamBlocked, StreamFailed}
 
@@ -16,3 +18,9 @@ abbrev pub stoppedBy : StreamAnswer → Answer
 stoppedBy (Count n) = Done
 stoppedBy WouldBlock = StreamBlocked
 stoppedBy Failed = StreamFailed
+
+-- how many bytes the answer to a read brings
+abbrev pub readCounted : ReadAnswer → ℕ
+readCounted (ReadCount n) = n
+readCounted ReadWouldBlock = 0
+readCounted ReadFailed = 0

@@ -9,11 +9,11 @@ use native.Mathlib.Nat.{mod-mod}
 use lib.Dec.{ltb, leb}
 use lib.ListN.{length, take, drop, length-drop, drop-of-length-le}
 use lib.Seq.{take-all}
-use borrow.Author.Tests.{ltb-false, leb-true, not-false}
+use borrow.Author.Tests.{ltb-false, le-ltb, leb-true, not-false}
 use Rattle.defs.specs.Choice.{when}
-use Rattle.defs.specs.Answer.{told, isDone}
+use Rattle.defs.specs.Answer.{told, isDone, whenDone}
 use Rattle.defs.specs.Limits.{maxPacket, isPacketLength}
-use Rattle.defs.specs.Ladder.{doorOf}
+use Rattle.defs.specs.Ladder.{doorOf, lowestOf}
 use Rattle.defs.specs.Wrapping.{wadd, wsub}
 use Rattle.defs.specs.Copying.{copied}
 use Rattle.defs.specs.declared.answer.Answer.{Answer}
@@ -28,7 +28,7 @@ use Rattle.txbuf.specs.Record.{Wide, usedOf, soundOf, heldFrom, held}
 use Rattle.txbuf.specs.Push.{runs, written, PushIn, PushLeft, pushAnswer, pushAnswerOf, pushDone, pushKept, pushOf, PushSays}
 use Rattle.txbuf.specs.Promises.{PushAppends}
 use Rattle.txbuf.specs.declared.record.TxBuf.{TxBuf}
-use Rattle.txbuf.proofs.RecordLaws.{Sound, sound-says}
+use Rattle.txbuf.proofs.RecordLaws.{Sound, sound-says, is-sound}
 use Rattle.txbuf.proofs.RingLaws.{write-cong, held-write, two-runs}
 
 -- ---- the code's two copies
@@ -76,6 +76,10 @@ ready b storage bytes e =
       short = packet-length bytes .0 (not-false _ (d .length-ok));
       room = ltb-false _ _ (full-not _ (u .1));
     }
+
+pub is-ready : (b : TxBuf) (storage bytes : ℕ) → Ready b storage bytes → pushAnswer b storage bytes ≡ Done
+unfolding pushAnswer lowestOf doorOf whenDone isDone when
+is-ready b storage bytes r = simp (is-sound b storage (r .sound), packet-length bytes .1 (r .short), le-ltb _ _ (r .room))
 
 -- ---- the two ends of a call
 

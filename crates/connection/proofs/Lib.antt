@@ -1,0 +1,5 @@
+pub mod LookLaws
+pub mod RawLaws
+pub mod RecordLaws
+pub mod ReceiveLaws
+pub mod SendLaws

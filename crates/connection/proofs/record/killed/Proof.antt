@@ -1,0 +1,11 @@
+use borrow.Author.Needs.{needs}
+use Rattle.connection.specs.Record.{killedOf}
+use Rattle.connection.proofs.record.killed.Statement.{statement}
+use Rattle.connection.proofs.record.killed.Tie as tie
+
+returns : tie.Need-returns
+unfolding killedOf
+returns c = rw (c .with-state .ensures, c .before .mark .ensures)
+
+pub killed-spec : {M : Type 1} → statement M
+killed-spec = tie.close (tie.spec (search needs) (search needs) returns)

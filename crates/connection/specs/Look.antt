@@ -1,0 +1,111 @@
+-- The calls that look at a connection, and `kill` (01, timers; as the Rust). Each answers 1 for a record that is not sound, those with a
+-- clock 3 for one over 2^62, and then gives a fixed value. Assumes nothing.
+use Prim.Native.Nat.{ℕ}
+use mathlib.Core.Path.{_≡_}
+use mathlib.Core.Bool.{Bool, false, not, _&&_, _||_}
+use lib.Dec.{ltb, leb, eqb}
+use Rattle.defs.specs.Answer.{Told, told, whenDone}
+use Rattle.defs.specs.declared.answer.Answer.{Answer}
+use Rattle.txbuf.specs.Record.{recordAnswer}
+use Rattle.connection.specs.State.{polls}
+use Rattle.connection.specs.Record.{soundConn, quiet, creditOf, clockAnswer, killedOf}
+use Rattle.connection.specs.Open.{OpenLeft}
+use Rattle.connection.specs.declared.record.PendingRxSet.{PendingRxSet}
+use Rattle.connection.specs.declared.record.Timer.{Timer}
+use Rattle.connection.specs.declared.record.Timer.the-variants.{Unset, At}
+use Rattle.connection.specs.declared.record.VsockConnection.{VsockConnection}
+use Rattle.connection.specs.declared.state.ConnState.{ConnState}
+use Rattle.connection.specs.declared.state.ConnState.the-variants.{LocalInit}
+
+pub record FlagLeft : Type 0 where
+  pub answer : Told
+  pub yes : Bool
+
+-- the answer of a call that tests its record alone
+abbrev pub lookAnswer : VsockConnection → Answer
+lookAnswer c = recordAnswer (soundConn c)
+
+-- any indication is pending
+unfoldable pub isPending : PendingRxSet → Bool
+isPending p = p .request || p .response || p .rst || p .rw || p .«credit_update»
+
+unfoldable pub pendingOf : VsockConnection → FlagLeft
+pendingOf c = record { answer = told (lookAnswer c); yes = whenDone (lookAnswer c) (isPending (c .«pending_rx»)) false }
+
+abbrev pub PendingSays : VsockConnection → FlagLeft → Type 0
+PendingSays c left = left ≡ pendingOf c
+
+-- ---- timers
+
+-- time > now
+abbrev pub after : Timer → ℕ → Bool
+after Unset clock = false
+after (At time) clock = ltb clock time
+
+-- time <= now
+abbrev pub due : Timer → ℕ → Bool
+due Unset clock = false
+due (At time) clock = leb time clock
+
+pub record Timed : Type 0 where
+  pub conn : VsockConnection
+  pub clock : ℕ
+
+abbrev pub timedAnswer : Timed → Answer
+timedAnswer i = clockAnswer (soundConn (i .conn)) (i .clock)
+
+unfoldable pub willExpireOf : Timed → FlagLeft
+willExpireOf i = record { answer = told (timedAnswer i); yes = whenDone (timedAnswer i) (after (i .conn .expiry) (i .clock)) false }
+
+abbrev pub WillExpireSays : Timed → FlagLeft → Type 0
+WillExpireSays i left = left ≡ willExpireOf i
+
+unfoldable pub hasExpiredOf : Timed → FlagLeft
+hasExpiredOf i = record { answer = told (timedAnswer i); yes = whenDone (timedAnswer i) (due (i .conn .expiry) (i .clock)) false }
+
+abbrev pub HasExpiredSays : Timed → FlagLeft → Type 0
+HasExpiredSays i left = left ≡ hasExpiredOf i
+
+pub record ExpiryLeft : Type 0 where
+  pub answer : Told
+  pub expiry : Timer
+
+unfoldable pub expiryOf : VsockConnection → ExpiryLeft
+expiryOf c = record { answer = told (lookAnswer c); expiry = whenDone (lookAnswer c) (c .expiry) Unset }
+
+abbrev pub ExpirySays : VsockConnection → ExpiryLeft → Type 0
+ExpirySays c left = left ≡ expiryOf c
+
+-- ---- the state, the polled events, and the end
+
+pub record StateLeft : Type 0 where
+  pub answer : Told
+  pub state : ConnState
+
+unfoldable pub stateOf : VsockConnection → StateLeft
+stateOf c = record { answer = told (lookAnswer c); state = whenDone (lookAnswer c) (c .state) LocalInit }
+
+abbrev pub StateSays : VsockConnection → StateLeft → Type 0
+StateSays c left = left ≡ stateOf c
+
+pub record EvSetLeft : Type 0 where
+  pub answer : Told
+  pub readable : Bool
+  pub writable : Bool
+
+-- out iff the ring isn't empty; in unless the state forbids data to the guest, or its credit is 0
+unfoldable pub evSetOf : VsockConnection → EvSetLeft
+evSetOf c = record {
+  answer = told (lookAnswer c);
+  readable = whenDone (lookAnswer c) (polls (c .state) && not (eqb (creditOf c) 0)) false;
+  writable = whenDone (lookAnswer c) (not (quiet c)) false;
+}
+
+abbrev pub EvSetSays : VsockConnection → EvSetLeft → Type 0
+EvSetSays c left = left ≡ evSetOf c
+
+unfoldable pub killOf : VsockConnection → OpenLeft
+killOf c = record { answer = told (lookAnswer c); conn = whenDone (lookAnswer c) (killedOf c) c }
+
+abbrev pub KillSays : VsockConnection → OpenLeft → Type 0
+KillSays c left = left ≡ killOf c

@@ -1,0 +1,226 @@
+-- `send_pkt` (01, section of that name): what is planned in numbers, the refusals, the rules of the ops, and what is left. Assumes nothing.
+use Prim.Native.Nat.{ℕ, _+_, _-_, _/_, _%_, _≤_}
+use mathlib.Core.Path.{_≡_}
+use mathlib.Core.Bool.{Bool, true, false, not, _&&_, _||_}
+use mathlib.Core.List.{List, [], _++_}
+use lib.ListN.{length, take, drop}
+use lib.Dec.{ltb, eqb}
+use Rattle.defs.specs.Choice.{when}
+use Rattle.defs.specs.Answer.{Told, told, whenDone}
+use Rattle.defs.specs.Limits.{maxPacket, maxClock, maxTimeout, isHeaderLength, isClock, isPacketLength}
+use Rattle.defs.specs.Stream.{counted}
+use Rattle.defs.specs.Ladder.{doorOf, lateOf, lowestOf}
+use Rattle.defs.specs.Wrapping.{wadd}
+use Rattle.defs.specs.Credit.{peerNeedsCreditUpdate}
+use Rattle.defs.specs.declared.answer.Answer.{Answer}
+use Rattle.defs.specs.declared.answer.Answer.the-variants.{Done}
+use Rattle.defs.specs.declared.stream.StreamAnswer.{StreamAnswer}
+use Rattle.defs.specs.declared.stream.StreamAnswer.the-variants.{Count, WouldBlock, Failed}
+use Rattle.defs.specs.declared.stream.StreamAnswers.{StreamAnswers}
+use Rattle.packet.specs.Uapi.{opResponse, opShutdown, opRw, opCreditRequest, flagShutdownRcv, flagShutdownSend}
+use Rattle.packet.specs.Header.{decoded}
+use Rattle.packet.specs.declared.hdr.VsockPacketHdr.{VsockPacketHdr}
+use Rattle.txbuf.specs.Record.{usedOf}
+use Rattle.txbuf.specs.Push.{PushIn, PushLeft, pushAnswer, pushDone}
+use Rattle.txbuf.specs.declared.record.TxBuf.{TxBuf}
+use Rattle.connection.specs.State.{takes, asks, isLocalInit, isEstablished, shutBy, bothOff}
+use Rattle.connection.specs.Record.{soundOver, quiet, withState, marked, killedOf}
+use Rattle.connection.specs.Receive.{later}
+use Rattle.connection.specs.declared.record.Timer.the-variants.{Unset}
+use Rattle.connection.specs.declared.record.VsockConnection.{VsockConnection}
+use Rattle.connection.specs.declared.state.ConnState.the-variants.{Established}
+use Rattle.connection.specs.declared.send.SendPlan.{SendPlan}
+
+abbrev pub failed : StreamAnswer → Bool
+failed (Count n) = false
+failed WouldBlock = false
+failed Failed = true
+
+-- ---- the rules of the ops, on the record alone
+
+-- peer credit is always stored first
+unfoldable pub heardOf : VsockConnection → VsockPacketHdr → VsockConnection
+heardOf c pkt = record {
+  settings = c .settings;
+  state = c .state;
+  «local_cid» = c .«local_cid»;
+  «peer_cid» = c .«peer_cid»;
+  «local_port» = c .«local_port»;
+  «peer_port» = c .«peer_port»;
+  «tx_buf» = c .«tx_buf»;
+  «fwd_cnt» = c .«fwd_cnt»;
+  «peer_buf_alloc» = pkt .«buf_alloc»;
+  «peer_fwd_cnt» = pkt .«fwd_cnt»;
+  «rx_cnt» = c .«rx_cnt»;
+  «last_fwd_cnt_to_peer» = c .«last_fwd_cnt_to_peer»;
+  «pending_rx» = c .«pending_rx»;
+  expiry = c .expiry;
+}
+
+-- RESPONSE in LocalInit: Established, timer cleared
+unfoldable pub onResponse : VsockConnection → VsockConnection
+onResponse c = when (isLocalInit (c .state)) (withState c Established Unset (c .«pending_rx»)) c
+
+-- shutdown flags: 1 receive, 2 send
+abbrev pub recvOff : ℕ → Bool
+recvOff flags = eqb (flags / flagShutdownRcv % 2) 1
+
+abbrev pub sendOff : ℕ → Bool
+sendOff flags = eqb (flags / flagShutdownSend % 2) 1
+
+-- THE SHUTDOWN RULE: both set and ring empty: Rst; both set in Established and ring not empty: the shutdown timer
+unfoldable pub onShutdown : VsockConnection → ℕ → ℕ → VsockConnection
+onShutdown c flags clock =
+    withState c (shutBy (c .state) (recvOff flags) (sendOff flags))
+    (when (isEstablished (c .state) && bothOff (shutBy (c .state) (recvOff flags) (sendOff flags)) && not (quiet c)) (later clock (c .settings .«shutdown_timeout»)) (c .expiry))
+    (marked (c .«pending_rx») (bothOff (shutBy (c .state) (recvOff flags) (sendOff flags)) && quiet c) false false)
+
+-- CREDIT_REQUEST: sets a credit update
+unfoldable pub onCreditRequest : VsockConnection → VsockConnection
+onCreditRequest c = withState c (c .state) (c .expiry) (marked (c .«pending_rx») false false (asks (c .state)))
+
+-- the ring and the count of taken bytes have moved
+unfoldable pub movedOf : VsockConnection → TxBuf → ℕ → VsockConnection
+movedOf c ring taken = record {
+  settings = c .settings;
+  state = c .state;
+  «local_cid» = c .«local_cid»;
+  «peer_cid» = c .«peer_cid»;
+  «local_port» = c .«local_port»;
+  «peer_port» = c .«peer_port»;
+  «tx_buf» = ring;
+  «fwd_cnt» = wadd (c .«fwd_cnt») taken;
+  «peer_buf_alloc» = c .«peer_buf_alloc»;
+  «peer_fwd_cnt» = c .«peer_fwd_cnt»;
+  «rx_cnt» = c .«rx_cnt»;
+  «last_fwd_cnt_to_peer» = c .«last_fwd_cnt_to_peer»;
+  «pending_rx» = c .«pending_rx»;
+  expiry = c .expiry;
+}
+
+-- a credit update is set if (R - (fwd_cnt - last told)), wrapping, is below T
+unfoldable pub updatedOf : VsockConnection → VsockConnection
+updatedOf c =
+    withState c (c .state) (c .expiry)
+    (marked (c .«pending_rx») false false (peerNeedsCreditUpdate (c .«tx_buf» .size) (c .settings .threshold) (c .«fwd_cnt») (c .«last_fwd_cnt_to_peer»)))
+
+-- RW: a failed write or full ring kills; else the threshold rule
+unfoldable pub onData : VsockConnection → SendPlan → Bool → TxBuf → VsockConnection
+onData c p kills ring = when (p .goes) (when kills (killedOf (movedOf c ring (p .written))) (updatedOf (movedOf c ring (p .written)))) c
+
+-- the op selects the rule; all else: nothing more
+unfoldable pub ruleOf : VsockConnection → VsockPacketHdr → SendPlan → Bool → TxBuf → ℕ → VsockConnection
+ruleOf c pkt p kills ring clock =
+    when (eqb (pkt .op) opResponse) (onResponse c)
+    (when (eqb (pkt .op) opShutdown) (onShutdown c (pkt .flags) clock)
+    (when (eqb (pkt .op) opRw) (onData c p kills ring)
+    (when (eqb (pkt .op) opCreditRequest) (onCreditRequest c) c)))
+
+-- ---- what is decided before a byte is touched
+
+-- RW in a state that takes it, with a buffer
+unfoldable pub goesOf : VsockConnection → ℕ → Bool → Bool
+goesOf c op present = takes (c .state) && present && eqb op opRw
+
+-- ring empty: one write, also of 0 bytes; would-block counts as 0
+abbrev pub writesOf : VsockConnection → ℕ → Bool → Bool
+writesOf c op present = goesOf c op present && quiet c
+
+unfoldable pub planOf : VsockConnection → VsockPacketHdr → Bool → StreamAnswer → SendPlan
+planOf c pkt present a = record {
+  goes = goesOf c (pkt .op) present;
+  len = when (goesOf c (pkt .op) present) (pkt .len) 0;
+  written = when (writesOf c (pkt .op) present) (counted a) 0;
+  broken = writesOf c (pkt .op) present && failed a;
+}
+
+-- a failed write or full ring kills
+unfoldable pub killsOf : VsockConnection → SendPlan → Bool
+killsOf c p = p .goes && (p .broken || ltb (c .«tx_buf» .size) (usedOf (c .«tx_buf») + (p .len - p .written)))
+
+-- 1 to 4 (a header of another length is 2 before that), then 5 and 6
+unfoldable pub sendRefusal : Bool → VsockPacketHdr → Bool → ℕ → ℕ → SendPlan → ℕ → Answer
+sendRefusal sound pkt present buf clock p room =
+    lowestOf
+    (doorOf (not sound) false (not (isClock clock)) (present && (not (isPacketLength buf) || eqb (pkt .op) opRw && ltb buf (pkt .len))))
+    (lateOf (ltb (p .len) (p .written)) (ltb room (p .written)))
+
+-- what the sums and parts within need
+abbrev pub Killable : SendPlan → Type 0
+Killable p = (p .written ≤ p .len) × (p .len ≤ maxPacket)
+
+abbrev pub Lingers : VsockConnection → ℕ → Type 0
+Lingers c clock = (clock ≤ maxClock) × (c .settings .«shutdown_timeout» ≤ maxTimeout)
+
+-- the ring and the storage, where the rest is kept
+unfoldable pub carried : Bool → TxBuf → List ℕ → List ℕ → PushLeft
+carried keeps ring store rest = when keeps (pushDone (record { ring = ring; store = store; src = rest })) (record { answer = told Done; ring = ring; store = store })
+
+pub record Carries (ring : TxBuf) (store payload : List ℕ) (written : ℕ) (keeps : Bool) (out : List ℕ) : Type 0 where
+  pub part : written ≤ length payload
+  pub room : written ≤ length out
+  pub pushes : keeps ≡ true → pushAnswer ring (length store) (length payload - written) ≡ Done
+
+-- ---- the call
+
+pub record SendIn : Type 0 where
+  pub conn : VsockConnection
+  pub store : List ℕ
+  pub hdr : List ℕ
+  pub present : Bool
+  pub buf : List ℕ
+  pub clock : ℕ
+  pub answers : StreamAnswers
+  pub out : List ℕ
+
+pub record SendLeft : Type 0 where
+  pub answer : Told
+  pub conn : VsockConnection
+  pub store : List ℕ
+  pub out : List ℕ
+
+abbrev pub pktOf : SendIn → VsockPacketHdr
+pktOf i = decoded (i .hdr)
+
+abbrev pub sendPlan : SendIn → SendPlan
+sendPlan i = planOf (i .conn) (pktOf i) (i .present) (i .answers .first)
+
+-- 01's table, 1 to 6, in one ladder: a header that isn't 44 bytes long is 2, whatever the later tests
+unfoldable pub sendAnswer : SendIn → Answer
+sendAnswer i =
+    when (isHeaderLength (length (i .hdr)))
+    (sendRefusal (soundOver (i .conn) (length (i .store))) (pktOf i) (i .present) (length (i .buf)) (i .clock) (sendPlan i) (length (i .out)))
+    (doorOf (not (soundOver (i .conn) (length (i .store)))) true false false)
+
+-- the bytes that the packet brings, none where it brings no data
+abbrev pub payload : SendIn → List ℕ
+payload i = take (sendPlan i .len) (i .buf)
+
+abbrev pub sendKills : SendIn → Bool
+sendKills i = killsOf (i .conn) (sendPlan i)
+
+abbrev pub sendCarried : SendIn → PushLeft
+sendCarried i = carried (sendPlan i .goes && not (sendKills i)) (i .conn .«tx_buf») (i .store) (drop (sendPlan i .written) (payload i))
+
+unfoldable pub sendDone : SendIn → SendLeft
+sendDone i = record {
+  answer = told Done;
+  conn = ruleOf (heardOf (i .conn) (pktOf i)) (pktOf i) (sendPlan i) (sendKills i) (sendCarried i .ring) (i .clock);
+  store = sendCarried i .store;
+  out = take (sendPlan i .written) (payload i) ++ drop (sendPlan i .written) (i .out);
+}
+
+unfoldable pub sendKept : SendIn → SendLeft
+sendKept i = record { answer = told (sendAnswer i); conn = i .conn; store = i .store; out = i .out }
+
+unfoldable pub sendOf : SendIn → SendLeft
+sendOf i = whenDone (sendAnswer i) (sendDone i) (sendKept i)
+
+-- THE STATEMENT of `send_pkt`
+abbrev pub SendSays : SendIn → SendLeft → Type 0
+SendSays i left = left ≡ sendOf i
+
+-- 01's accepted payload of a call: the first `len` bytes if RW meets a state that takes it, with a buffer, and doesn't kill; if it kills, the
+-- bytes the stream took in that call; otherwise none
+unfoldable pub accepted : SendIn → List ℕ
+accepted i = whenDone (sendAnswer i) (when (sendKills i) (take (sendPlan i .written) (payload i)) (payload i)) []

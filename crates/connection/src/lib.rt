@@ -1,0 +1,31 @@
+// A connection between a guest's socket and a host's stream (csm/connection.rs).
+//
+// The guest sends packets, which the host's stream takes or the ring holds (`send_pkt`, `notify`);
+// the host's bytes go to the guest as packets, one for each turn to speak (`recv_pkt`), as far as
+// the guest has room: that is its credit. What is to be said next is a set of pending indications.
+// The record goes in by value and comes back; the ring's storage, the header and the buffers are
+// lent; the stream's answers and the clock are handed in.
+mod look;
+mod open;
+mod raw;
+mod receive;
+mod record;
+mod send;
+mod state;
+
+pub use look::EvSet;
+pub use look::Expiry;
+pub use look::Flag;
+pub use look::State;
+pub use raw::RawSent;
+pub use receive::After;
+pub use receive::Arms;
+pub use receive::Row;
+pub use receive::RxStep;
+pub use record::Outcome;
+pub use record::PendingRxSet;
+pub use record::Settings;
+pub use record::Timer;
+pub use record::VsockConnection;
+pub use send::SendPlan;
+pub use state::ConnState;

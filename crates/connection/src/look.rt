@@ -1,0 +1,172 @@
+// The calls that look at a connection or end it: none needs its storage or its stream.
+ghost use mathlib.Core.Path.{_≡_};
+ghost use Rattle.defs.specs.Answer.{told};
+ghost use Rattle.connection.specs.Open.{OpenLeft};
+ghost use Rattle.connection.specs.Look.{isPending, after, due, Timed, FlagLeft, PendingSays, WillExpireSays, HasExpiredSays, ExpiryLeft, ExpirySays, StateLeft, StateSays, EvSetLeft, EvSetSays, KillSays};
+use crate::record::Outcome;
+use crate::record::PendingRxSet;
+use crate::record::Timer;
+use crate::record::VsockConnection;
+use crate::record::credit;
+use crate::record::is_quiet;
+use crate::record::is_sound;
+use crate::record::killed;
+use crate::state::ConnState;
+use crate::state::polls;
+use defs::Answer;
+use defs::limits;
+
+pub struct Flag {
+    pub answer: Answer,
+    pub yes: bool,
+}
+
+pub struct Expiry {
+    pub answer: Answer,
+    pub expiry: Timer,
+}
+
+pub struct State {
+    pub answer: Answer,
+    pub state: ConnState,
+}
+
+// The events that the stream is to be watched for.
+pub struct EvSet {
+    pub answer: Answer,
+    pub readable: bool,
+    pub writable: bool,
+}
+
+impl VsockConnection {
+    pub fn has_pending_rx(self) -> Flag
+        ensures { λ r. ⌜ PendingSays self (record { answer = told (r .answer); yes = r .yes }) ⌝ }
+    {
+        let answer = defs::door(!is_sound(self), false, false, false);
+        let Answer::Done = answer else {
+            return Flag { answer, yes: false };
+        };
+        let pending = self.pending_rx;
+        Flag {
+            answer,
+            yes: is_pending(pending),
+        }
+    }
+
+    // A timer is set, and its time has not come.
+    pub fn will_expire(self, now_ms: u64) -> Flag
+        ensures { λ r. ⌜ WillExpireSays (record { conn = self; clock = «now_ms» }) (record { answer = told (r .answer); yes = r .yes }) ⌝ }
+    {
+        let answer = defs::door(!is_sound(self), false, !limits::is_clock(now_ms), false);
+        let Answer::Done = answer else {
+            return Flag { answer, yes: false };
+        };
+        let expiry = self.expiry;
+        Flag {
+            answer,
+            yes: is_after(expiry, now_ms),
+        }
+    }
+
+    // A timer is set, and its time has come.
+    pub fn has_expired(self, now_ms: u64) -> Flag
+        ensures { λ r. ⌜ HasExpiredSays (record { conn = self; clock = «now_ms» }) (record { answer = told (r .answer); yes = r .yes }) ⌝ }
+    {
+        let answer = defs::door(!is_sound(self), false, !limits::is_clock(now_ms), false);
+        let Answer::Done = answer else {
+            return Flag { answer, yes: false };
+        };
+        let expiry = self.expiry;
+        Flag {
+            answer,
+            yes: is_due(expiry, now_ms),
+        }
+    }
+
+    pub fn expiry(self) -> Expiry
+        ensures { λ r. ⌜ ExpirySays self (record { answer = told (r .answer); expiry = r .expiry }) ⌝ }
+    {
+        let answer = defs::door(!is_sound(self), false, false, false);
+        let Answer::Done = answer else {
+            return Expiry {
+                answer,
+                expiry: Timer::Unset,
+            };
+        };
+        let expiry = self.expiry;
+        Expiry { answer, expiry }
+    }
+
+    pub fn state(self) -> State
+        ensures { λ r. ⌜ StateSays self (record { answer = told (r .answer); state = r .state }) ⌝ }
+    {
+        let answer = defs::door(!is_sound(self), false, false, false);
+        let Answer::Done = answer else {
+            return State {
+                answer,
+                state: ConnState::LocalInit,
+            };
+        };
+        let state = self.state;
+        State { answer, state }
+    }
+
+    // Out where the ring holds bytes; in where data may go to the guest and it has room.
+    pub fn get_polled_evset(self) -> EvSet
+        ensures { λ r. ⌜ EvSetSays self (record { answer = told (r .answer); readable = r .readable; writable = r .writable }) ⌝ }
+    {
+        let answer = defs::door(!is_sound(self), false, false, false);
+        let Answer::Done = answer else {
+            return EvSet {
+                answer,
+                readable: false,
+                writable: false,
+            };
+        };
+        let state = self.state;
+        let blocked = credit(self) == 0;
+        EvSet {
+            answer,
+            readable: polls(state) & !blocked,
+            writable: !is_quiet(self),
+        }
+    }
+
+    // To be reset at the next turn to speak.
+    pub fn kill(self) -> Outcome
+        ensures { λ r. ⌜ KillSays self (record { answer = told (r .answer); conn = r .conn }) ⌝ }
+    {
+        let answer = defs::door(!is_sound(self), false, false, false);
+        let Answer::Done = answer else {
+            return Outcome { answer, conn: self };
+        };
+        Outcome {
+            answer,
+            conn: killed(self),
+        }
+    }
+}
+
+fn is_pending(pending: PendingRxSet) -> bool
+    ensures { λ r. ⌜ r ≡ isPending pending ⌝ }
+{
+    pending.request | pending.response | pending.rst | pending.rw | pending.credit_update
+}
+
+fn is_after(expiry: Timer, now_ms: u64) -> bool
+    ensures { λ r. ⌜ r ≡ after expiry «now_ms» ⌝ }
+{
+    match expiry {
+        Timer::Unset => false,
+        Timer::At(time) => now_ms < time,
+    }
+}
+
+fn is_due(expiry: Timer, now_ms: u64) -> bool
+    ensures { λ r. ⌜ r ≡ due expiry «now_ms» ⌝ }
+{
+    match expiry {
+        Timer::Unset => false,
+        Timer::At(time) => time <= now_ms,
+    }
+}

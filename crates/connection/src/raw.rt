@@ -1,0 +1,49 @@
+// The raw send: straight to the stream, past ring and flow control. No account of it is kept.
+ghost use mathlib.Core.Path.{_≡_};
+ghost use Rattle.defs.specs.Answer.{told};
+ghost use Rattle.defs.specs.Stream.{counted};
+ghost use Rattle.connection.specs.Raw.{RawIn, RawLeft, RawSays};
+use crate::record::VsockConnection;
+use crate::record::is_sound;
+use defs::Answer;
+use defs::StreamAnswer;
+use defs::StreamAnswers;
+use defs::limits;
+
+pub struct RawSent {
+    pub answer: Answer,
+    pub count: usize,
+}
+
+impl VsockConnection {
+    // One write of `buf`: its front, as much as the stream took, goes to the front of `out`.
+    pub fn send_bytes_raw(self, buf: &[u8], answers: StreamAnswers, out: &mut [u8]) -> RawSent
+        ensures { λ r. ⌜ RawSays (record { conn = self; buf = now (buf .entry); answers = answers; out = now (out .entry) }) (record { answer = told (r .answer); count = r .count; out = now (out .exit) }) ⌝ }
+    {
+        let first = answers.first;
+        let count = count_of(first);
+        let door = defs::door(
+            !is_sound(self),
+            false,
+            false,
+            !limits::is_packet_length(buf.len()),
+        );
+        let late = defs::late(buf.len() < count, out.len() < count);
+        let answer = defs::lowest(defs::lowest(door, late), defs::stopped_by(first));
+        let Answer::Done = answer else {
+            return RawSent { answer, count: 0 };
+        };
+        defs::copy(out, &buf[..count]);
+        RawSent { answer, count }
+    }
+}
+
+// How many bytes an answer takes.
+pub(crate) fn count_of(answer: StreamAnswer) -> usize
+    ensures { λ r. ⌜ r ≡ counted answer ⌝ }
+{
+    let StreamAnswer::Count(count) = answer else {
+        return 0;
+    };
+    count
+}

@@ -1,0 +1,153 @@
+// The record of a connection, and what is sound.
+ghost use mathlib.Core.Path.{_≡_};
+ghost use Rattle.connection.specs.Record.{okSettings, soundConn, soundOver, quiet, creditOf, withState, marked, killedOf};
+use crate::state::ConnState;
+use defs::Answer;
+use defs::limits;
+use txbuf::TxBuf;
+
+// What the port has in place of the Rust's constants, beside the ring's size.
+pub struct Settings {
+    pub threshold: u32,
+    pub request_timeout: u64,
+    pub shutdown_timeout: u64,
+}
+
+// The packets that are to be handed to the guest.
+pub struct PendingRxSet {
+    pub request: bool,
+    pub response: bool,
+    pub rst: bool,
+    pub rw: bool,
+    pub credit_update: bool,
+}
+
+// When the connection is to be ended, if at all, in milliseconds.
+pub enum Timer {
+    Unset,
+    At(u64),
+}
+
+pub struct VsockConnection {
+    pub settings: Settings,
+    pub state: ConnState,
+    pub local_cid: u64,
+    pub peer_cid: u64,
+    pub local_port: u32,
+    pub peer_port: u32,
+    // What the guest sent and the stream has not taken yet.
+    pub tx_buf: TxBuf,
+    // How many of the guest's bytes the stream has taken.
+    pub fwd_cnt: u32,
+    // The guest's space for this connection, and how much of ours it has taken out of it.
+    pub peer_buf_alloc: u32,
+    pub peer_fwd_cnt: u32,
+    // How many bytes were sent to the guest.
+    pub rx_cnt: u32,
+    // Our fwd_cnt as the guest last heard it.
+    pub last_fwd_cnt_to_peer: u32,
+    pub pending_rx: PendingRxSet,
+    pub expiry: Timer,
+}
+
+// What a call that moves a connection comes back with.
+pub struct Outcome {
+    pub answer: Answer,
+    pub conn: VsockConnection,
+}
+
+pub(crate) fn ok_settings(settings: Settings, size: u32) -> bool
+    ensures { λ r. ⌜ r ≡ okSettings settings size ⌝ }
+{
+    limits::is_threshold(settings.threshold, size)
+        & limits::is_timeout(settings.request_timeout)
+        & limits::is_timeout(settings.shutdown_timeout)
+}
+
+// Whether the record is sound, where no ring storage is lent.
+pub fn is_sound(conn: VsockConnection) -> bool
+    ensures { λ r. ⌜ r ≡ soundConn conn ⌝ }
+{
+    let ring = conn.tx_buf;
+    let settings = conn.settings;
+    ring.is_sound() & ok_settings(settings, ring.size)
+}
+
+// Whether it is sound over a ring storage of so many bytes.
+pub fn is_sound_over(conn: VsockConnection, storage: usize) -> bool
+    ensures { λ r. ⌜ r ≡ soundOver conn storage ⌝ }
+{
+    let ring = conn.tx_buf;
+    let settings = conn.settings;
+    ring.is_sound_over(storage) & ok_settings(settings, ring.size)
+}
+
+// Whether the ring counts as empty.
+pub fn is_quiet(conn: VsockConnection) -> bool
+    ensures { λ r. ⌜ r ≡ quiet conn ⌝ }
+{
+    let ring = conn.tx_buf;
+    ring.used() == 0
+}
+
+// How many bytes the guest has room for.
+pub fn credit(conn: VsockConnection) -> u32
+    ensures { λ r. ⌜ r ≡ creditOf conn ⌝ }
+{
+    defs::peer_avail_credit(conn.peer_buf_alloc, conn.rx_cnt, conn.peer_fwd_cnt)
+}
+
+// The record with another state, timer and set of indications.
+pub(crate) fn with_state(
+    conn: VsockConnection,
+    state: ConnState,
+    expiry: Timer,
+    pending_rx: PendingRxSet,
+) -> VsockConnection
+    ensures { λ r. ⌜ r ≡ withState conn state expiry «pending_rx» ⌝ }
+{
+    let settings = conn.settings;
+    let tx_buf = conn.tx_buf;
+    VsockConnection {
+        settings,
+        state,
+        local_cid: conn.local_cid,
+        peer_cid: conn.peer_cid,
+        local_port: conn.local_port,
+        peer_port: conn.peer_port,
+        tx_buf,
+        fwd_cnt: conn.fwd_cnt,
+        peer_buf_alloc: conn.peer_buf_alloc,
+        peer_fwd_cnt: conn.peer_fwd_cnt,
+        rx_cnt: conn.rx_cnt,
+        last_fwd_cnt_to_peer: conn.last_fwd_cnt_to_peer,
+        pending_rx,
+        expiry,
+    }
+}
+
+pub(crate) fn mark(pending: PendingRxSet, rst: bool, rw: bool, update: bool) -> PendingRxSet
+    ensures { λ r. ⌜ r ≡ marked pending rst rw update ⌝ }
+{
+    PendingRxSet {
+        request: pending.request,
+        response: pending.response,
+        rst: pending.rst | rst,
+        rw: pending.rw | rw,
+        credit_update: pending.credit_update | update,
+    }
+}
+
+// Killed, with a reset pending; other indications stay.
+pub(crate) fn killed(conn: VsockConnection) -> VsockConnection
+    ensures { λ r. ⌜ r ≡ killedOf conn ⌝ }
+{
+    let expiry = conn.expiry;
+    let pending = conn.pending_rx;
+    with_state(
+        conn,
+        ConnState::Killed,
+        expiry,
+        mark(pending, true, false, false),
+    )
+}
