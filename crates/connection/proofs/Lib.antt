@@ -3,3 +3,4 @@ pub mod RawLaws
 pub mod RecordLaws
 pub mod ReceiveLaws
 pub mod SendLaws
+pub mod NotifyLaws

@@ -5,3 +5,4 @@ pub mod Look
 pub mod Raw
 pub mod Receive
 pub mod Send
+pub mod Notify

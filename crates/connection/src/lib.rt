@@ -6,6 +6,7 @@
 // The record goes in by value and comes back; the ring's storage, the header and the buffers are
 // lent; the stream's answers and the clock are handed in.
 mod look;
+mod notify;
 mod open;
 mod raw;
 mod receive;

@@ -8,7 +8,7 @@ ghost use Prim.Native.Nat.{_≤_};
 ghost use lib.ListN.{length, take, drop};
 ghost use Rattle.defs.specs.Choice.{when};
 ghost use Rattle.defs.specs.Answer.{told};
-ghost use Rattle.defs.specs.Limits.{maxPacket, maxClock, maxTimeout};
+ghost use Rattle.defs.specs.Limits.{maxRing, maxPacket, maxClock, maxTimeout};
 ghost use Rattle.txbuf.specs.Push.{PushLeft};
 ghost use Rattle.connection.specs.Receive.{later};
 ghost use Rattle.connection.specs.Send.{failed, recvOff, sendOff, heardOf, movedOf, updatedOf, onResponse, onShutdown, onCreditRequest, onData, ruleOf, goesOf, planOf, killsOf, sendRefusal, Lingers, Killable, carried, Carries, SendIn, SendLeft, SendSays};
@@ -308,7 +308,7 @@ fn on_data(conn: VsockConnection, plan: SendPlan, kills: bool, ring: TxBuf) -> V
 }
 
 pub(crate) fn moved(conn: VsockConnection, ring: TxBuf, taken: usize) -> VsockConnection
-    requires { ⌜ taken ≤ maxPacket ⌝ }
+    requires { ⌜ taken ≤ maxRing ⌝ }
     ensures { λ r. ⌜ r ≡ movedOf conn ring taken ⌝ }
 {
     let fwd_cnt = defs::wrapping_add(conn.fwd_cnt, taken as u32);

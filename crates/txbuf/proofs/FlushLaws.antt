@@ -676,6 +676,14 @@ flush-told i =
     (λ (t : isDone (flushAnswer i) ≡ false). rw (← flush-refused i (flushAnswer i) refl t))
     (true-or-false (isDone (flushAnswer i)))
 
+-- for callers: the answer behind what is told
+pub flush-answer : (i : FlushIn) (left : FlushLeft) (a : Answer) → FlushSays i left → told a ≡ left .answer → a ≡ flushAnswer i
+flush-answer i left a says e = told-tells-apart a (flushAnswer i) (e ∙ ap (λ (o : FlushLeft). o .answer) says ∙ flush-told i)
+
+-- a flush that is not done leaves everything
+pub flush-kept : (i : FlushIn) (left : FlushLeft) → FlushSays i left → isDone (flushAnswer i) ≡ false → left .out ≡ i .out
+flush-kept i left says n = ap (λ (o : FlushLeft). o .out) (says ∙ sym (flush-refused i (flushAnswer i) refl n))
+
 oldest : (i : FlushIn) → Wide (i .ring) → TakesOldest i (flushOf i)
 oldest i w =
     ⊎-elim

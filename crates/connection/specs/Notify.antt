@@ -1,0 +1,83 @@
+-- `notify` (01, section of that name). Assumes nothing.
+use Prim.Native.Nat.{ℕ}
+use mathlib.Core.Path.{_≡_}
+use mathlib.Core.Bool.{Bool, true, false, not, _&&_}
+use mathlib.Core.List.{List}
+use lib.ListN.{length}
+use lib.Dec.{eqb}
+use Rattle.defs.specs.Choice.{when}
+use Rattle.defs.specs.Answer.{Told, told, whenDone}
+use Rattle.defs.specs.Ladder.{lowestOf}
+use Rattle.defs.specs.declared.answer.Answer.{Answer}
+use Rattle.defs.specs.declared.answer.Answer.the-variants.{Done}
+use Rattle.defs.specs.declared.stream.StreamAnswers.{StreamAnswers}
+use Rattle.txbuf.specs.Record.{recordAnswer}
+use Rattle.txbuf.specs.Flush.{FlushIn, FlushLeft, flushAnswer, flushOf}
+use Rattle.txbuf.specs.declared.record.TxBuf.{TxBuf}
+use Rattle.connection.specs.State.{bothOff}
+use Rattle.connection.specs.Record.{soundOver, quiet, withState, marked, killedOf}
+use Rattle.connection.specs.Send.{failed, movedOf, updatedOf}
+use Rattle.connection.specs.declared.record.VsockConnection.{VsockConnection}
+
+-- in-event sets Rw
+unfoldable pub seenOf : VsockConnection → Bool → VsockConnection
+seenOf c readable = withState c (c .state) (c .expiry) (marked (c .«pending_rx») false readable false)
+
+-- 01's table, number 10: only of direct calls; here the flush's answer is absorbed
+unfoldable pub absorbed : Answer → Answer
+absorbed a = when (eqb (told a .number) 10) Done a
+
+-- then Rst if PeerClosed(true, true) and empty, else credit update by the threshold rule
+unfoldable pub settledOf : VsockConnection → VsockConnection
+settledOf c =
+    when (bothOff (c .state) && quiet c) (withState c (c .state) (c .expiry) (marked (c .«pending_rx») true false false)) (updatedOf c)
+
+-- a first-write failure kills, a would-block doesn't; add the count
+unfoldable pub drainedOf : VsockConnection → TxBuf → ℕ → Bool → VsockConnection
+drainedOf c ring taken fails = settledOf (when fails (killedOf (movedOf c ring taken)) (movedOf c ring taken))
+
+-- ---- the call
+
+pub record NotifyIn : Type 0 where
+  pub conn : VsockConnection
+  pub readable : Bool
+  pub writable : Bool
+  pub store : List ℕ
+  pub answers : StreamAnswers
+  pub out : List ℕ
+
+pub record NotifyLeft : Type 0 where
+  pub answer : Told
+  pub conn : VsockConnection
+  pub out : List ℕ
+
+-- a flush is due: an out-event, and the ring isn't empty
+abbrev pub due : NotifyIn → Bool
+due i = i .writable && not (quiet (i .conn))
+
+abbrev pub flushIn : NotifyIn → FlushIn
+flushIn i = record { ring = i .conn .«tx_buf»; store = i .store; answers = i .answers; out = i .out }
+
+abbrev pub flushed : NotifyIn → FlushLeft
+flushed i = flushOf (flushIn i)
+
+-- 01's table: 1, then 5 and 6 where a flush is due
+unfoldable pub notifyAnswer : NotifyIn → Answer
+notifyAnswer i = lowestOf (recordAnswer (soundOver (i .conn) (length (i .store)))) (when (due i) (absorbed (flushAnswer (flushIn i))) Done)
+
+unfoldable pub notifyDone : NotifyIn → NotifyLeft
+notifyDone i = record {
+  answer = told Done;
+  conn = when (due i) (drainedOf (seenOf (i .conn) (i .readable)) (flushed i .ring) (flushed i .count) (failed (i .answers .first))) (seenOf (i .conn) (i .readable));
+  out = when (due i) (flushed i .out) (i .out);
+}
+
+unfoldable pub notifyKept : NotifyIn → NotifyLeft
+notifyKept i = record { answer = told (notifyAnswer i); conn = i .conn; out = i .out }
+
+unfoldable pub notifyOf : NotifyIn → NotifyLeft
+notifyOf i = whenDone (notifyAnswer i) (notifyDone i) (notifyKept i)
+
+-- THE STATEMENT of `notify`
+abbrev pub NotifySays : NotifyIn → NotifyLeft → Type 0
+NotifySays i left = left ≡ notifyOf i

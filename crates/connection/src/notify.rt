@@ -1,0 +1,108 @@
+// What the stream's events do (01, `notify`): an in-event leaves word that there is data to read,
+// an out-event flushes the ring.
+ghost use mathlib.Core.Path.{_≡_};
+ghost use Prim.Native.Nat.{_≤_};
+ghost use Rattle.defs.specs.Answer.{told};
+ghost use Rattle.defs.specs.Limits.{maxRing};
+ghost use Rattle.connection.specs.Notify.{seenOf, absorbed, settledOf, drainedOf, NotifyIn, NotifyLeft, NotifySays};
+use crate::record::Outcome;
+use crate::record::VsockConnection;
+use crate::record::is_quiet;
+use crate::record::is_sound_over;
+use crate::record::killed;
+use crate::record::mark;
+use crate::record::with_state;
+use crate::send::has_failed;
+use crate::send::moved;
+use crate::send::updated;
+use crate::state::both_off;
+use defs::Answer;
+use defs::StreamAnswers;
+use txbuf::TxBuf;
+
+impl VsockConnection {
+    // Takes the stream's events. A flush is due on an out-event unless the ring is empty; what the
+    // stream takes of it stands at the front of `out`.
+    pub fn notify(
+        self,
+        readable: bool,
+        writable: bool,
+        storage: &[u8],
+        answers: StreamAnswers,
+        out: &mut [u8],
+    ) -> Outcome
+        ensures { λ r. ⌜ NotifySays (record { conn = self; readable = readable; writable = writable; store = now (storage .entry); answers = answers; out = now (out .entry) }) (record { answer = told (r .answer); conn = r .conn; out = now (out .exit) }) ⌝ }
+    {
+        let sound = is_sound_over(self, storage.len());
+        let answer = defs::door(!sound, false, false, false);
+        let Answer::Done = answer else {
+            return Outcome { answer, conn: self };
+        };
+        let seen = see(self, readable);
+        if writable & !is_quiet(self) {
+            let ring = self.tx_buf;
+            let first = answers.first;
+            let flushed = ring.flush_to(storage, answers, out);
+            let ended = flushed.answer;
+            let absorbed = absorb(ended);
+            let Answer::Done = absorbed else {
+                return Outcome {
+                    answer: absorbed,
+                    conn: self,
+                };
+            };
+            let left = flushed.ring;
+            let conn = drained(seen, left, flushed.count, has_failed(first));
+            return Outcome {
+                answer: absorbed,
+                conn,
+            };
+        }
+        Outcome { answer, conn: seen }
+    }
+}
+
+fn see(conn: VsockConnection, readable: bool) -> VsockConnection
+    ensures { λ r. ⌜ r ≡ seenOf conn readable ⌝ }
+{
+    let state = conn.state;
+    let expiry = conn.expiry;
+    let pending = conn.pending_rx;
+    with_state(conn, state, expiry, mark(pending, false, readable, false))
+}
+
+// A first write that blocks or fails is no refusal of the event.
+fn absorb(answer: Answer) -> Answer
+    ensures { λ r. ⌜ r ≡ absorbed answer ⌝ }
+{
+    if defs::number_of(answer) == 10 {
+        return Answer::Done;
+    }
+    answer
+}
+
+// After a flush. A failed first write kills.
+fn drained(conn: VsockConnection, ring: TxBuf, taken: usize, fails: bool) -> VsockConnection
+    requires { ⌜ taken ≤ maxRing ⌝ }
+    ensures { λ r. ⌜ r ≡ drainedOf conn ring taken fails ⌝ }
+{
+    let next = moved(conn, ring, taken);
+    if fails {
+        return settled(killed(next));
+    }
+    settled(next)
+}
+
+// A guest that shut down both ways has waited for the ring to drain; any other may be owed a
+// credit update.
+fn settled(conn: VsockConnection) -> VsockConnection
+    ensures { λ r. ⌜ r ≡ settledOf conn ⌝ }
+{
+    let state = conn.state;
+    let expiry = conn.expiry;
+    let pending = conn.pending_rx;
+    if both_off(state) & is_quiet(conn) {
+        return with_state(conn, state, expiry, mark(pending, true, false, false));
+    }
+    updated(conn)
+}
