@@ -4,3 +4,5 @@ pub mod RecordLaws
 pub mod ReceiveLaws
 pub mod SendLaws
 pub mod NotifyLaws
+pub mod MovesLaws
+pub mod Promises

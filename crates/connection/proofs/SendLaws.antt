@@ -1,6 +1,7 @@
 -- Laws of `send_pkt`: where its bytes go, what a passed refusal says, and the ends of the call. Assumes nothing.
 use Prim.Native.Nat.{ℕ, _+_, _-_, _≤_, zero-le}
 use mathlib.Core.Path.{_≡_, refl, sym, ap, _∙_}
+use mathlib.Core.Logic.{⊎-elim}
 use mathlib.Core.Bool.{Bool, true, false, not, _&&_, _||_}
 use mathlib.Core.List.{List, _++_}
 use native.Mathlib.Omega.{arith}
@@ -15,7 +16,7 @@ use Rattle.defs.specs.Ladder.{doorOf}
 use Rattle.defs.specs.Copying.{copied}
 use Rattle.defs.specs.declared.answer.Answer.{Answer}
 use Rattle.defs.specs.declared.answer.Answer.the-variants.{Done}
-use Rattle.defs.proofs.Basics.{never, neither}
+use Rattle.defs.proofs.Basics.{never, neither, true-or-false}
 use Rattle.defs.proofs.ChoiceLaws.{when-true, when-false}
 use Rattle.defs.proofs.AnswerLaws.{NotDone, not-done, when-done, when-not-done}
 use Rattle.defs.proofs.LadderLaws.{lowest-passed, door-passed, late-passed}
@@ -103,6 +104,14 @@ passed i d =
       part = b .0;
       room = ltb-false _ _ (l .room-ok);
     }
+
+pub answer-passed : (i : SendIn) → sendAnswer i ≡ Done → Passed i
+unfolding sendAnswer
+answer-passed i d =
+    ⊎-elim
+    (λ (t : isHeaderLength (length (i .hdr)) ≡ true). passed i (sym (when-true _ _ _ t) ∙ d))
+    (λ (t : isHeaderLength (length (i .hdr)) ≡ false). absurd (never (sym (door-passed _ true _ _ (sym (when-false _ _ _ t) ∙ d) .header-ok))))
+    (true-or-false (isHeaderLength (length (i .hdr))))
 
 -- what is kept has room in the ring
 room-left : (goes broken full : Bool) → goes && not (goes && (broken || full)) ≡ true → full ≡ false

@@ -6,3 +6,6 @@ pub mod Raw
 pub mod Receive
 pub mod Send
 pub mod Notify
+pub mod Moves
+pub mod Edges
+pub mod Promises

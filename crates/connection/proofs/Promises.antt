@@ -1,0 +1,62 @@
+-- The promises of specs/Promises, each by its law. Assumes nothing.
+use mathlib.Core.Path.{refl}
+use Rattle.defs.specs.Choice.{when}
+use Rattle.defs.specs.Answer.{isDone, whenDone}
+use Rattle.defs.specs.Limits.{isRingSize, isThreshold, isTimeout, isClock, isPacketLength, isHeaderLength}
+use Rattle.defs.specs.Ladder.{doorOf, lateOf, lowestOf}
+use Rattle.defs.specs.Copying.{copied}
+use Rattle.defs.specs.Credit.{peerAvailCredit, peerNeedsCreditUpdate}
+use Rattle.defs.proofs.Pins.{by-equation}
+use Rattle.packet.specs.Header.{encoded, decoded}
+use Rattle.txbuf.specs.Record.{soundRecord, soundOf, heldFrom, held, recordAnswer}
+use Rattle.txbuf.specs.Push.{runs, pushDone}
+use Rattle.connection.specs.Record.{okSettings, soundConn, soundOver, quiet, creditOf, withState, killedOf}
+use Rattle.connection.specs.Open.{freshOf, openAnswer, peerInitOf}
+use Rattle.connection.specs.Receive.{nextStep, spokenOf, receivedOf, headerOf, recvDoor, readsOf, recvRefusal, recvDone, recvKept, recvOf}
+use Rattle.connection.specs.Send.{heardOf, movedOf, updatedOf, onData, ruleOf, goesOf, planOf, killsOf, sendRefusal, carried, sendAnswer, sendDone, sendKept, sendOf}
+use Rattle.connection.specs.Edges.{readingA, readingBCD, readingE, readingG, readingH}
+use Rattle.connection.specs.Promises.{SendMoves, NotifyMoves, ReceiveKeeps, KillKeeps, EdgesHold, EachCallPinned}
+use Rattle.connection.proofs.MovesLaws as moves
+
+pub send-moves : SendMoves
+send-moves = moves.send-moves
+
+pub notify-moves : NotifyMoves
+notify-moves = moves.notify-moves
+
+pub receive-keeps : ReceiveKeeps
+receive-keeps = moves.receive-keeps
+
+pub kill-keeps : KillKeeps
+kill-keeps = moves.kill-keeps
+
+pub edges-hold : EdgesHold
+unfolding when isDone whenDone isRingSize isThreshold isTimeout isClock isPacketLength isHeaderLength doorOf lateOf lowestOf copied peerAvailCredit peerNeedsCreditUpdate encoded decoded soundRecord soundOf heldFrom held recordAnswer runs pushDone okSettings soundConn soundOver quiet creditOf withState killedOf freshOf openAnswer peerInitOf nextStep spokenOf receivedOf headerOf recvDoor readsOf recvRefusal recvDone recvKept recvOf heardOf movedOf updatedOf onData ruleOf goesOf planOf killsOf sendRefusal carried sendAnswer sendDone sendKept sendOf readingA readingBCD readingE readingG readingH
+edges-hold = record {
+  a = (refl, (refl, tt));
+  bcd = (refl, (refl, (refl, (refl, (refl, (refl, tt))))));
+  e = (refl, (refl, (refl, tt)));
+  g = (refl, (refl, tt));
+  h = (refl, tt);
+}
+
+pub each-call-pinned : EachCallPinned
+each-call-pinned = record {
+  is-sound = by-equation _ _ _;
+  is-sound-over = by-equation _ _ _;
+  is-quiet = by-equation _ _ _;
+  credit = by-equation _ _ _;
+  new-peer-init = by-equation _ _ _;
+  new-local-init = by-equation _ _ _;
+  has-pending-rx = by-equation _ _ _;
+  will-expire = by-equation _ _ _;
+  has-expired = by-equation _ _ _;
+  expiry = by-equation _ _ _;
+  state = by-equation _ _ _;
+  get-polled-evset = by-equation _ _ _;
+  kill = by-equation _ _ _;
+  send-bytes-raw = by-equation _ _ _;
+  recv-pkt = by-equation _ _ _;
+  send-pkt = by-equation _ _ _;
+  notify = by-equation _ _ _;
+}

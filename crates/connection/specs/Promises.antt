@@ -1,0 +1,66 @@
+-- What this crate promises, in statements only; proofs/Promises has a line for each. Assumes nothing.
+use Prim.Native.Nat.{ℕ}
+use mathlib.Core.Path.{_≡_}
+use mathlib.Core.Bool.{Bool}
+use mathlib.Core.List.{List, []}
+use lib.ListN.{take}
+use Rattle.defs.specs.Pinned.{Pinned}
+use Rattle.defs.specs.Reading.{Hold}
+use Rattle.txbuf.specs.Record.{held}
+use Rattle.connection.specs.Record.{soundConn, soundOver, quiet, creditOf}
+use Rattle.connection.specs.Open.{Opening, OpenLeft, PeerInitSays, LocalInitSays}
+use Rattle.connection.specs.Look.{FlagLeft, PendingSays, Timed, WillExpireSays, HasExpiredSays, ExpiryLeft, ExpirySays, StateLeft, StateSays, EvSetLeft, EvSetSays, KillSays}
+use Rattle.connection.specs.Raw.{RawIn, RawLeft, RawSays}
+use Rattle.connection.specs.Receive.{RecvIn, RecvLeft, RecvSays}
+use Rattle.connection.specs.Send.{SendIn, SendLeft, SendSays, accepted}
+use Rattle.connection.specs.Notify.{NotifyIn, NotifyLeft, NotifySays}
+use Rattle.connection.specs.Moves.{Numbers, account, sendTaken, notifyTaken, Moved}
+use Rattle.connection.specs.Edges.{readingA, readingBCD, readingE, readingG, readingH}
+use Rattle.connection.specs.declared.record.VsockConnection.{VsockConnection}
+
+-- a packet: what the stream took, then what is held, is what was held, then what was accepted
+abbrev pub SendMoves : Type 0
+SendMoves =
+    (i : SendIn) (left : SendLeft) → Numbers (i .conn) → SendSays i left
+    → Moved (i .conn) (left .conn) (held (i .conn .«tx_buf») (i .store)) (held (left .conn .«tx_buf») (left .store)) (take (sendTaken i) (left .out)) (accepted i)
+
+-- an event: the oldest bytes leave the ring, and nothing is accepted
+abbrev pub NotifyMoves : Type 0
+NotifyMoves =
+    (i : NotifyIn) (left : NotifyLeft) → Numbers (i .conn) → NotifySays i left
+    → Moved (i .conn) (left .conn) (held (i .conn .«tx_buf») (i .store)) (held (left .conn .«tx_buf») (i .store)) (take (notifyTaken i) (left .out)) []
+
+-- receiving and killing leave ring, count and settings
+abbrev pub ReceiveKeeps : Type 0
+ReceiveKeeps = (i : RecvIn) (left : RecvLeft) → RecvSays i left → account (left .conn) ≡ account (i .conn)
+
+abbrev pub KillKeeps : Type 0
+KillKeeps = (c : VsockConnection) (left : OpenLeft) → KillSays c left → account (left .conn) ≡ account c
+
+-- 01's readings at the edges of this crate
+pub record EdgesHold : Type 0 where
+  pub a : Hold readingA
+  pub bcd : Hold readingBCD
+  pub e : Hold readingE
+  pub g : Hold readingG
+  pub h : Hold readingH
+
+-- every public call: any two outcomes that meet its contract are identical
+pub record EachCallPinned : Type 0 where
+  pub is-sound : Pinned VsockConnection Bool (λ c r. r ≡ soundConn c)
+  pub is-sound-over : Pinned (VsockConnection × ℕ) Bool (λ i r. r ≡ soundOver (i .0) (i .1))
+  pub is-quiet : Pinned VsockConnection Bool (λ c r. r ≡ quiet c)
+  pub credit : Pinned VsockConnection ℕ (λ c r. r ≡ creditOf c)
+  pub new-peer-init : Pinned Opening OpenLeft PeerInitSays
+  pub new-local-init : Pinned Opening OpenLeft LocalInitSays
+  pub has-pending-rx : Pinned VsockConnection FlagLeft PendingSays
+  pub will-expire : Pinned Timed FlagLeft WillExpireSays
+  pub has-expired : Pinned Timed FlagLeft HasExpiredSays
+  pub expiry : Pinned VsockConnection ExpiryLeft ExpirySays
+  pub state : Pinned VsockConnection StateLeft StateSays
+  pub get-polled-evset : Pinned VsockConnection EvSetLeft EvSetSays
+  pub kill : Pinned VsockConnection OpenLeft KillSays
+  pub send-bytes-raw : Pinned RawIn RawLeft RawSays
+  pub recv-pkt : Pinned RecvIn RecvLeft RecvSays
+  pub send-pkt : Pinned SendIn SendLeft SendSays
+  pub notify : Pinned NotifyIn NotifyLeft NotifySays
