@@ -2,12 +2,14 @@
 use Prim.Native.Nat.{ℕ, zero, suc, _+_, _-_, _≤_, _<_}
 use mathlib.Core.Path.{_≡_, refl, ap, sym, _∙_}
 use mathlib.Core.Bool.{Bool, true, false, _&&_}
-use mathlib.Core.List.{List, [], _∷_, _++_, map, append-assoc}
+use mathlib.Core.List.{List, [], _∷_, _++_, map, append-nil}
 use native.Mathlib.Numerals.{add-one}
 use native.Mathlib.Nat.{not-suc-le-zero}
 use native.Mathlib.Omega.{arith}
+use lib.Dec.{leb}
+use borrow.Author.Tests.{lt-leb, le-leb}
 use lib.ListN.{length, getD, take, drop, set, replicate, length-map, length-append, length-drop, length-set, take-append-drop}
-use lib.Seq.{take-suc, drop-cons, set-at, set-append-left, append-snoc, length-take-le, getD-drop, take-append-seam, drop-append-seam}
+use lib.Seq.{take-suc, drop-cons, set-at, set-append-left, append-snoc, length-take-le, getD-drop, take-append-seam, drop-append-seam, take-at, take-all}
 use Rattle.defs.proofs.Basics.{both}
 use Rattle.conn_map.specs.Places.{padded, all}
 
@@ -87,3 +89,20 @@ module _ {A : Type 0} (N : ℕ) (z : A) where
       ∙ set-at l (getD P (length l) z) (drop (length l) (l ++ R)) z (length l) refl
       ∙ ap (λ (t : List A). l ++ (z ∷ t)) (drop-append-seam l R)
       ∙ ap (λ (n : ℕ). l ++ replicate n z) (let e : suc (N - suc (length l)) ≡ N - length l = omega arith in e)
+
+-- ---- a queue filled by a walk: at most `limit` of all items, from the front; `held` are in it, `rest` are still to come
+
+module _ {A : Type 0} (limit : ℕ) (total held : List A) where
+  pub fill-more : (x : A) (rest : List A) → total ≡ held ++ (x ∷ rest) → total ≡ (held ++ (x ∷ [])) ++ rest
+  fill-more x rest e = e ∙ sym (append-snoc held x rest)
+
+  pub fill-full : (x : A) (rest : List A) → total ≡ held ++ (x ∷ rest) → length held ≡ limit
+      → (held ≡ take limit total) × (leb (length total) limit ≡ false)
+  fill-full x rest e f =
+      (sym (ap (take limit) e ∙ take-at held (x ∷ rest) limit f), lt-leb (length total) limit (omega (arith, ap length e, length-append held (x ∷ rest))))
+
+  pub fill-end : (rest : List A) → total ≡ held ++ rest → rest ≡ [] → length held ≤ limit
+      → (held ≡ take limit total) × (leb (length total) limit ≡ true)
+  fill-end rest e z h =
+      let f : total ≡ held = e ∙ ap (λ (r : List A). held ++ r) z ∙ append-nil held in
+      (sym (ap (take limit) f ∙ take-all limit held h), le-leb (length total) limit (omega (arith, ap length f)))

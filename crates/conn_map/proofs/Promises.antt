@@ -10,4 +10,10 @@ pub ports-tell-keys : PortsTellKeys
 ports-tell-keys = tables.ports-tell-keys
 
 pub each-call-pinned : EachCallPinned
-each-call-pinned = record { key-of = by-equation _ _ _; is-sound = by-equation _ _ _ }
+each-call-pinned = record {
+  key-of = by-equation _ _ _;
+  is-sound = by-equation _ _ _;
+  record-answer = by-equation _ _ _;
+  flag-of = by-equation _ _ _;
+  len-of = by-equation _ _ _;
+}

@@ -9,6 +9,8 @@ use Rattle.defs.specs.Pinned.{Pinned}
 use Rattle.defs.specs.Promises.{Exactly}
 use Rattle.conn_map.specs.Key.{keyOf}
 use Rattle.conn_map.specs.Table.{usedAt, soundTable}
+use Rattle.conn_map.specs.Look.{recordAnswer, FlagLeft, FlagSays, LenLeft, LenSays}
+use Rattle.defs.specs.declared.answer.Answer.{Answer}
 use Rattle.conn_map.specs.declared.key.ConnMapKey.{ConnMapKey}
 
 -- 01: no two used slots have the same ports
@@ -35,3 +37,6 @@ pub record TableIn : Type 0 where
 pub record EachCallPinned : Type 0 where
   pub key-of : Pinned ℕ ConnMapKey (λ ports r. r ≡ keyOf ports)
   pub is-sound : Pinned TableIn Bool (λ i r. r ≡ soundTable (i .ports) (i .used) (i .marks))
+  pub record-answer : Pinned Bool Answer (λ sound r. r ≡ recordAnswer sound)
+  pub flag-of : Pinned (Bool × Bool) FlagLeft (λ i left. FlagSays (i .0) (i .1) left)
+  pub len-of : Pinned (Bool × ℕ) LenLeft (λ i left. LenSays (i .0) (i .1) left)
