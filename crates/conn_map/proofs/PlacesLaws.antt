@@ -4,7 +4,8 @@ use mathlib.Core.Path.{_≡_, refl, ap, sym, _∙_}
 use mathlib.Core.Bool.{Bool, true, false, _&&_}
 use mathlib.Core.List.{List, [], _∷_, _++_, map, append-nil}
 use native.Mathlib.Numerals.{add-one}
-use native.Mathlib.Nat.{not-suc-le-zero}
+use mathlib.Core.Logic.{⊎-elim}
+use native.Mathlib.Nat.{not-suc-le-zero, eq-or-lt-of-le}
 use native.Mathlib.Omega.{arith}
 use lib.Dec.{leb}
 use borrow.Author.Tests.{lt-leb, le-leb}
@@ -90,19 +91,69 @@ module _ {A : Type 0} (N : ℕ) (z : A) where
       ∙ ap (λ (t : List A). l ++ (z ∷ t)) (drop-append-seam l R)
       ∙ ap (λ (n : ℕ). l ++ replicate n z) (let e : suc (N - suc (length l)) ≡ N - length l = omega arith in e)
 
--- ---- a queue filled by a walk: at most `limit` of all items, from the front; `held` are in it, `rest` are still to come
+-- ---- a queue filled by a walk
 
-module _ {A : Type 0} (limit : ℕ) (total held : List A) where
-  pub fill-more : (x : A) (rest : List A) → total ≡ held ++ (x ∷ rest) → total ≡ (held ++ (x ∷ [])) ++ rest
-  fill-more x rest e = e ∙ sym (append-snoc held x rest)
+-- the first `len` of N places hold items, and with `rest`, still to come, they are all
+pub record Filled {A : Type 0} (N : ℕ) (z : A) (limit : ℕ) (total places : List A) (len : ℕ) (rest : List A) : Type 0 where
+  pub cleared : places ≡ padded N z (take len places)
+  pub held : length (take len places) ≡ len
+  pub within : len ≤ limit
+  pub all-items : total ≡ take len places ++ rest
 
-  pub fill-full : (x : A) (rest : List A) → total ≡ held ++ (x ∷ rest) → length held ≡ limit
-      → (held ≡ take limit total) × (leb (length total) limit ≡ false)
-  fill-full x rest e f =
-      (sym (ap (take limit) e ∙ take-at held (x ∷ rest) limit f), lt-leb (length total) limit (omega (arith, ap length e, length-append held (x ∷ rest))))
+-- the walk's end: the first items, as far as the limit goes, and whether those are all
+pub record Made {A : Type 0} (N : ℕ) (z : A) (limit : ℕ) (total places : List A) (len : ℕ) (synced : Bool) : Type 0 where
+  pub places-made : places ≡ padded N z (take limit total)
+  pub len-made : len ≡ length (take limit total)
+  pub synced-made : synced ≡ leb (length total) limit
 
-  pub fill-end : (rest : List A) → total ≡ held ++ rest → rest ≡ [] → length held ≤ limit
-      → (held ≡ take limit total) × (leb (length total) limit ≡ true)
-  fill-end rest e z h =
-      let f : total ≡ held = e ∙ ap (λ (r : List A). held ++ r) z ∙ append-nil held in
-      (sym (ap (take limit) f ∙ take-all limit held h), le-leb (length total) limit (omega (arith, ap length f)))
+module _ {A : Type 0} (N : ℕ) (z : A) (limit : ℕ) (total : List A) where
+  filled : (places l : List A) (len : ℕ) (rest : List A) → places ≡ padded N z l → len ≡ length l → len ≤ limit → total ≡ l ++ rest
+      → Filled N z limit total places len rest
+  filled places l len rest p n h t =
+      let s : l ≡ take len places = sym (ap (take len) p ∙ ap (λ (k : ℕ). take k (padded N z l)) n ∙ items-of N z l) in
+      record {
+        cleared = p ∙ ap (padded N z) s;
+        held = sym (n ∙ ap length s);
+        within = h;
+        all-items = t ∙ ap (λ (x : List A). x ++ rest) s;
+      }
+
+  pub filled-start : (places : List A) (len : ℕ) (rest : List A) → places ≡ padded N z [] → len ≡ 0 → total ≡ rest → Filled N z limit total places len rest
+  filled-start places len rest p n t = filled places [] len rest p n (omega arith) t
+
+  made : (places : List A) (len : ℕ) (rest : List A) → Filled N z limit total places len rest → take len places ≡ take limit total → (synced : Bool)
+      → leb (length total) limit ≡ synced → Made N z limit total places len synced
+  made places len rest f e synced b =
+      record { places-made = f .cleared ∙ ap (padded N z) e; len-made = sym (f .held) ∙ ap length e; synced-made = sym b }
+
+  module _ (places : List A) (len : ℕ) where
+    pub filled-skip : (rest rest′ : List A) → rest ≡ rest′ → Filled N z limit total places len rest → Filled N z limit total places len rest′
+    filled-skip rest rest′ e f =
+        record { cleared = f .cleared; held = f .held; within = f .within; all-items = f .all-items ∙ ap (λ (x : List A). take len places ++ x) e }
+
+    pub filled-end : (rest : List A) → rest ≡ [] → Filled N z limit total places len rest → Made N z limit total places len true
+    filled-end rest e f =
+        let t : total ≡ take len places = f .all-items ∙ ap (λ (x : List A). take len places ++ x) e ∙ append-nil (take len places) in
+        let n : length total ≤ limit = omega (arith, ap length t, f .held, f .within) in
+        made places len rest f (sym t ∙ sym (take-all limit total n)) true (le-leb (length total) limit n)
+
+    module _ (x : A) (rest : List A) (f : Filled N z limit total places len (x ∷ rest)) where
+      pub filled-full : len ≡ limit → Made N z limit total places len false
+      filled-full e =
+          made places len (x ∷ rest) f
+          (sym (ap (take limit) (f .all-items) ∙ take-at (take len places) (x ∷ rest) limit (f .held ∙ e)))
+          false
+          (lt-leb (length total) limit (omega (arith, ap length (f .all-items), length-append (take len places) (x ∷ rest), f .held)))
+
+      pub filled-room : (len ≡ limit → ⊥) → len < limit
+      filled-room e = ⊎-elim (λ (y : len ≡ limit). absurd (e y)) (λ (y : len < limit). y) (eq-or-lt-of-le (f .within))
+
+      pub filled-take : (len ≡ limit → ⊥) → limit ≤ N → Filled N z limit total (set places len x) (len + 1) rest
+      filled-take e h =
+          let l : List A = take len places in
+          let r : len < limit = filled-room e in
+          filled (set places len x) (l ++ (x ∷ [])) (len + 1) rest
+          (ap (λ (p : List A). set p len x) (f .cleared) ∙ ap (λ (k : ℕ). set (padded N z l) k x) (sym (f .held)) ∙ places-append N z l x (omega (arith, f .held)))
+          (omega (arith, f .held, length-append l (x ∷ [])))
+          (omega arith)
+          (f .all-items ∙ sym (append-snoc l x rest))

@@ -2,7 +2,7 @@
 use Prim.Native.Nat.{ℕ, suc, zero, _+_, _-_, _/_, _%_, _^_, _<_, _≤_}
 use mathlib.Core.Path.{_≡_, refl, ap, sym, _∙_}
 use mathlib.Core.Bool.{Bool, true, false, not, _&&_, _||_}
-use mathlib.Core.List.{List, [], _∷_}
+use mathlib.Core.List.{List, [], _∷_, map}
 use mathlib.Core.Logic.{⊎-elim}
 use lib.ListN.{length, getD}
 use lib.Dec.{eqb, leb, ltb}
@@ -16,7 +16,7 @@ use Rattle.defs.specs.Promises.{Exactly}
 use Rattle.defs.proofs.Basics.{both, never, true-or-false}
 use Rattle.defs.proofs.ChoiceLaws.{when-true, when-false}
 use Rattle.conn_map.specs.Key.{keyOf}
-use Rattle.conn_map.specs.Table.{Slot, slotAt, slotsFrom, chosen, anyBelow, usedAt, hit, distinct, soundTable, homeOf, seen, behind, probes}
+use Rattle.conn_map.specs.Table.{Slot, slotAt, slotsFrom, slotsOf, chosen, gathered, anyBelow, usedAt, hit, distinct, soundTable, homeOf, seen, behind, probes}
 use Rattle.conn_map.specs.Promises.{PortsTellKeys, NoTwoAlike, SoundMeansDistinct}
 use Rattle.conn_map.specs.declared.key.ConnMapKey.{ConnMapKey}
 
@@ -335,22 +335,28 @@ sound-means-distinct ports used marks = (
 
 -- ---- a walk over the slots
 
-module _ (ports used marks : List ℕ) where
-  pub slots-more : (i n : ℕ) → i < n
-      → slotsFrom ports used marks i (n - i) ≡ slotAt ports used marks i ∷ slotsFrom ports used marks (i + 1) (n - (i + 1))
+module _ {A : Type 0} (test : Slot → Bool) (make : Slot → A) (ports used marks : List ℕ) where
+  -- what the slots from i on give
+  pub rest : ℕ → List A
+  rest i = gathered test make (slotsFrom ports used marks i (length ports - i))
+
+  pub rest-all : gathered test make (slotsOf ports used marks) ≡ rest 0
+  unfolding rest slotsOf
+  rest-all = ap (λ (n : ℕ). gathered test make (slotsFrom ports used marks 0 n)) (let z : length ports ≡ length ports - 0 = omega arith in z)
+
+  slots-more : (i : ℕ) → i < length ports
+      → slotsFrom ports used marks i (length ports - i) ≡ slotAt ports used marks i ∷ slotsFrom ports used marks (i + 1) (length ports - (i + 1))
   unfolding slotsFrom
-  slots-more i n h =
-      let s : n - i ≡ suc (n - (i + 1)) = omega arith in
-      rw (s, add-one i)
+  slots-more i h = let s : length ports - i ≡ suc (length ports - (i + 1)) = omega arith in rw (s, add-one i)
 
-  pub slots-end : (i n : ℕ) → n ≤ i → slotsFrom ports used marks i (n - i) ≡ []
-  unfolding slotsFrom
-  slots-end i n h = let s : n - i ≡ 0 = omega arith in rw s
+  pub rest-yes : (i : ℕ) → i < length ports → test (slotAt ports used marks i) ≡ true → rest i ≡ make (slotAt ports used marks i) ∷ rest (i + 1)
+  unfolding rest gathered chosen
+  rest-yes i h e = ap (gathered test make) (slots-more i h) ∙ ap (map make) (when-true _ _ _ e)
 
-pub chosen-yes : (test : Slot → Bool) (s : Slot) (l : List Slot) → test s ≡ true → chosen test (s ∷ l) ≡ s ∷ chosen test l
-unfolding chosen
-chosen-yes test s l e = when-true _ _ _ e
+  pub rest-no : (i : ℕ) → i < length ports → test (slotAt ports used marks i) ≡ false → rest i ≡ rest (i + 1)
+  unfolding rest gathered chosen
+  rest-no i h e = ap (gathered test make) (slots-more i h) ∙ ap (map make) (when-false _ _ _ e)
 
-pub chosen-no : (test : Slot → Bool) (s : Slot) (l : List Slot) → test s ≡ false → chosen test (s ∷ l) ≡ chosen test l
-unfolding chosen
-chosen-no test s l e = when-false _ _ _ e
+  pub rest-end : (i : ℕ) → length ports ≤ i → rest i ≡ []
+  unfolding rest gathered chosen slotsFrom
+  rest-end i h = let s : length ports - i ≡ 0 = omega arith in rw s

@@ -1,7 +1,7 @@
 -- The connection table over lent slices (01, "The numbers of a connection"): its slots, and when it is sound. Assumes nothing.
 use Prim.Native.Nat.{ℕ, suc, zero, _+_, _-_, _%_}
 use mathlib.Core.Bool.{Bool, false, not, _&&_, _||_}
-use mathlib.Core.List.{List, [], _∷_}
+use mathlib.Core.List.{List, [], _∷_, map}
 use lib.ListN.{length, getD}
 use lib.Dec.{eqb, leb}
 use Rattle.defs.specs.Choice.{when}
@@ -33,10 +33,14 @@ slotsFrom ports used marks i (suc n) = slotAt ports used marks i ∷ slotsFrom p
 unfoldable pub slotsOf : List ℕ → List ℕ → List ℕ → List Slot
 slotsOf ports used marks = slotsFrom ports used marks 0 (length ports)
 
--- the slots that pass a test, in slot order
-unfoldable pub chosen : (Slot → Bool) → List Slot → List Slot
+-- those of a list that pass a test, in its order
+unfoldable pub chosen : {A : Type 0} → (A → Bool) → List A → List A
 chosen test [] = []
-chosen test (s ∷ l) = when (test s) (s ∷ chosen test l) (chosen test l)
+chosen test (x ∷ l) = when (test x) (x ∷ chosen test l) (chosen test l)
+
+-- what the slots that pass a test give, in slot order
+unfoldable pub gathered : {A : Type 0} → (Slot → Bool) → (Slot → A) → List Slot → List A
+gathered test make slots = map make (chosen test slots)
 
 -- ---- when it is sound
 

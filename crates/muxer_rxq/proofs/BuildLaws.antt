@@ -1,14 +1,9 @@
 -- Laws of `from_conn_map`: a turn of the walk, and its ends. Assumes nothing.
-use Prim.Native.Nat.{ℕ, _+_, _-_, _≤_, _<_}
-use mathlib.Core.Path.{_≡_, refl, ap, sym, _∙_}
-use mathlib.Core.Logic.{⊎-elim}
+use Prim.Native.Nat.{ℕ, _+_, _≤_, _<_}
+use mathlib.Core.Path.{_≡_, ap, _∙_}
 use mathlib.Core.Bool.{Bool, true, false, _&&_}
-use mathlib.Core.List.{List, [], _∷_, _++_, map}
-use native.Mathlib.Omega.{arith}
-use native.Mathlib.Nat.{eq-or-lt-of-le}
-use lib.Dec.{leb}
-use lib.ListN.{length, getD, take, set, length-append}
-use borrow.Author.Tests.{eqb-true}
+use mathlib.Core.List.{List, [], _∷_}
+use lib.ListN.{length, getD, take, set}
 use Rattle.defs.specs.Answer.{Told, told}
 use Rattle.defs.specs.Limits.{maxRxq, isRxqLimit}
 use Rattle.defs.specs.declared.answer.Answer.{Answer}
@@ -16,96 +11,70 @@ use Rattle.defs.specs.declared.answer.Answer.the-variants.{Done}
 use Rattle.defs.proofs.Basics.{both}
 use Rattle.defs.proofs.AnswerLaws.{NotDone, outcome-kept, outcome-done}
 use Rattle.conn_map.specs.Key.{keyOf}
-use Rattle.conn_map.specs.Table.{Slot, usedAt, slotAt, slotsFrom, slotsOf, chosen, soundTable}
+use Rattle.conn_map.specs.Table.{Slot, usedAt, slotsOf, soundTable}
 use Rattle.conn_map.specs.Look.{recordAnswer}
-use Rattle.conn_map.specs.Places.{padded}
-use Rattle.conn_map.proofs.TableLaws.{slots-more, slots-end, chosen-yes, chosen-no, sound-means-distinct}
+use Rattle.conn_map.proofs.TableLaws.{rest, rest-all, rest-yes, rest-no, rest-end, sound-means-distinct}
 use Rattle.conn_map.proofs.LookLaws.{record-passed}
-use Rattle.conn_map.proofs.PlacesLaws.{items-of, places-append, fill-more, fill-full, fill-end}
-use Rattle.muxer_rxq.specs.Queue.{zeroItem, items, pack, QueuedLeft}
+use Rattle.conn_map.proofs.PlacesLaws.{Filled, Made, filled-start, filled-skip, filled-end, filled-full, filled-room, filled-take}
+use Rattle.muxer_rxq.specs.Queue.{zeroItem, pack, QueuedLeft}
 use Rattle.muxer_rxq.specs.Build.{isPending, connTo, pendingOf, builtFrom, marked, BuildIn, buildAnswer, buildOf}
 use Rattle.muxer_rxq.specs.declared.queue.MuxerRx.{MuxerRx}
 use Rattle.muxer_rxq.specs.declared.queue.MuxerRxQ.{MuxerRxQ}
 use Rattle.muxer_rxq.proofs.QueueLaws.{packs, limit-most}
 
 module _ (limit : ℕ) (ports used pending : List ℕ) where
-  pub total : List MuxerRx
-  total = pendingOf (slotsOf ports used pending)
-
-  -- the items that the slots from i on will give
-  pub rest : ℕ → List MuxerRx
-  rest i = pendingOf (slotsFrom ports used pending i (length ports - i))
-
-  -- what a turn keeps: the queue holds items, and with those still to come they are all
+  -- what a turn keeps: the queue is filled by the slots before i
   pub record Kept (q : MuxerRxQ) (i : ℕ) : Type 0 where
-    pub packed : q ≡ pack (items q) limit true
-    pub within : q .len ≤ limit
-    pub all : total ≡ items q ++ rest i
-
-  kept : (q : MuxerRxQ) (i : ℕ) (l : List MuxerRx) → q ≡ pack l limit true → length l ≤ limit → total ≡ l ++ rest i → Kept q i
-  kept q i l e h t =
-      let s : l ≡ items q = sym (ap items e ∙ items-of maxRxq zeroItem l) in
-      record {
-        packed = e ∙ ap (λ (x : List MuxerRx). pack x limit true) s;
-        within = omega (arith, ap (λ (x : MuxerRxQ). x .len) e);
-        all = t ∙ ap (λ (x : List MuxerRx). x ++ rest i) s;
-      }
+    pub limited : q .limit ≡ limit
+    pub in-sync : q .synced ≡ true
+    pub filling : Filled maxRxq zeroItem limit (pendingOf (slotsOf ports used pending)) (q .q) (q .len) (rest isPending (λ (s : Slot). connTo (s .key)) ports used pending i)
 
   pub kept-start : (q : MuxerRxQ) → q ≡ pack [] limit true → Kept q 0
-  unfolding total rest slotsOf
-  kept-start q e =
-      kept q 0 [] e (omega arith) (ap (λ (n : ℕ). pendingOf (slotsFrom ports used pending 0 n)) (let z : length ports ≡ length ports - 0 = omega arith in z))
+  kept-start q e = record {
+    limited = ap (λ (x : MuxerRxQ). x .limit) e;
+    in-sync = ap (λ (x : MuxerRxQ). x .synced) e;
+    filling = filled-start _ _ _ _ _ _ _ (ap (λ (x : MuxerRxQ). x .q) e) (ap (λ (x : MuxerRxQ). x .len) e) (rest-all isPending (λ (s : Slot). connTo (s .key)) ports used pending);
+  }
 
-  module _ (i : ℕ) (h : i < length ports) where
-    rest-yes : marked (getD used i 0) (getD pending i 0) ≡ true → rest i ≡ connTo (keyOf (getD ports i 0)) ∷ rest (i + 1)
-    unfolding rest pendingOf usedAt
-    rest-yes e = ap pendingOf (slots-more ports used pending i (length ports) h) ∙ ap (map (λ (s : Slot). connTo (s .key))) (chosen-yes isPending (slotAt ports used pending i) _ e)
+  built : (q : MuxerRxQ) (synced : Bool) → q .limit ≡ limit → Made maxRxq zeroItem limit (pendingOf (slotsOf ports used pending)) (q .q) (q .len) synced
+      → _≡_ {A = MuxerRxQ} (record { q = q .q; len = q .len; limit = q .limit; synced = synced }) (builtFrom limit (slotsOf ports used pending))
+  unfolding builtFrom
+  built q synced e m = rw (m .synced-made, e) (packs (q .q) (take limit (pendingOf (slotsOf ports used pending))) (q .len) limit _ (m .len-made) (m .places-made))
 
-    rest-no : marked (getD used i 0) (getD pending i 0) ≡ false → rest i ≡ rest (i + 1)
-    unfolding rest pendingOf usedAt
-    rest-no e = ap pendingOf (slots-more ports used pending i (length ports) h) ∙ ap (map (λ (s : Slot). connTo (s .key))) (chosen-no isPending (slotAt ports used pending i) _ e)
+  module _ (q : MuxerRxQ) (i : ℕ) (k : Kept q i) where
+    pub kept-end : length ports ≤ i → q ≡ builtFrom limit (slotsOf ports used pending)
+    kept-end h =
+        ap (λ (b : Bool). record { q = q .q; len = q .len; limit = q .limit; synced = b }) (k .in-sync)
+        ∙ built q true (k .limited) (filled-end _ _ _ _ _ _ _ (rest-end _ _ ports used pending i h) (k .filling))
 
-    module _ (q : MuxerRxQ) (k : Kept q i) where
-      held : length (items q) ≡ q .len
-      held = sym (ap (λ (x : MuxerRxQ). x .len) (k .packed))
-
+    module _ (h : i < length ports) where
       pub kept-skip : marked (getD used i 0) (getD pending i 0) ≡ false → Kept q (i + 1)
-      kept-skip e = record { packed = k .packed; within = k .within; all = k .all ∙ ap (λ (x : List MuxerRx). items q ++ x) (rest-no e) }
+      unfolding usedAt
+      kept-skip e = record {
+        limited = k .limited;
+        in-sync = k .in-sync;
+        filling = filled-skip _ _ _ _ _ _ _ _ (rest-no isPending (λ (s : Slot). connTo (s .key)) ports used pending i h e) (k .filling);
+      }
 
       module _ (e : marked (getD used i 0) (getD pending i 0) ≡ true) where
-        all-yes : total ≡ items q ++ (connTo (keyOf (getD ports i 0)) ∷ rest (i + 1))
-        all-yes = k .all ∙ ap (λ (x : List MuxerRx). items q ++ x) (rest-yes e)
+        next : Filled maxRxq zeroItem limit (pendingOf (slotsOf ports used pending)) (q .q) (q .len) (connTo (keyOf (getD ports i 0)) ∷ rest isPending (λ (s : Slot). connTo (s .key)) ports used pending (i + 1))
+        unfolding usedAt
+        next = filled-skip _ _ _ _ _ _ _ _ (rest-yes isPending (λ (s : Slot). connTo (s .key)) ports used pending i h e) (k .filling)
 
         pub kept-full : q .len ≡ limit
             → _≡_ {A = MuxerRxQ} (record { q = q .q; len = q .len; limit = q .limit; synced = false }) (builtFrom limit (slotsOf ports used pending))
-        unfolding builtFrom total
-        kept-full f =
-            let r = fill-full limit total (items q) (connTo (keyOf (getD ports i 0))) (rest (i + 1)) all-yes (held ∙ f) in
-            ap (λ (x : MuxerRxQ). record { q = x .q; len = x .len; limit = x .limit; synced = false }) (k .packed)
-            ∙ ap (λ (x : List MuxerRx). pack x limit false) (r .0)
-            ∙ ap (pack (take limit total) limit) (sym (r .1))
+        kept-full f = built q false (k .limited) (filled-full _ _ _ _ _ _ _ _ next f)
 
         pub room : (q .len ≡ limit → ⊥) → q .len < limit
-        room f = ⊎-elim (λ (z : q .len ≡ limit). absurd (f z)) (λ (z : q .len < limit). z) (eq-or-lt-of-le (k .within))
+        room f = filled-room _ _ _ _ _ _ _ _ next f
 
         pub kept-take : (x : MuxerRx) → x ≡ connTo (keyOf (getD ports i 0)) → (q .len ≡ limit → ⊥) → limit ≤ maxRxq
             → Kept (record { q = set (q .q) (q .len) x; len = q .len + 1; limit = q .limit; synced = q .synced }) (i + 1)
-        kept-take x g f m =
-            let l : List MuxerRx = items q ++ (x ∷ []) in
-            let p : set (q .q) (q .len) x ≡ padded maxRxq zeroItem l =
-            ap (λ (y : MuxerRxQ). set (y .q) (y .len) x) (k .packed) ∙ places-append maxRxq zeroItem (items q) x (omega (arith, held, room f)) in
-            kept _ (i + 1) l
-            (ap (λ (y : MuxerRxQ). record { q = set (q .q) (q .len) x; len = q .len + 1; limit = y .limit; synced = y .synced }) (k .packed)
-            ∙ packs _ l _ limit true (omega (arith, held, length-append (items q) (x ∷ []))) p)
-            (omega (arith, held, room f, length-append (items q) (x ∷ [])))
-            (fill-more limit total (items q) x (rest (i + 1)) (all-yes ∙ ap (λ (y : MuxerRx). items q ++ (y ∷ rest (i + 1))) (sym g)))
-
-  pub kept-end : (q : MuxerRxQ) (i : ℕ) → length ports ≤ i → Kept q i → q ≡ builtFrom limit (slotsOf ports used pending)
-  unfolding builtFrom total rest pendingOf chosen
-  kept-end q i h k =
-      let z : rest i ≡ [] = ap pendingOf (slots-end ports used pending i (length ports) h) in
-      let r = fill-end limit total (items q) (rest i) (k .all) z (omega (arith, k .within, ap (λ (x : MuxerRxQ). x .len) (k .packed))) in
-      k .packed ∙ ap (λ (x : List MuxerRx). pack x limit true) (r .0) ∙ ap (pack (take limit total) limit) (sym (r .1))
+        kept-take x g f m = record {
+          limited = k .limited;
+          in-sync = k .in-sync;
+          filling = rw g (filled-take _ _ _ _ _ _ _ _ next f m);
+        }
 
 -- ---- the ends of the call
 

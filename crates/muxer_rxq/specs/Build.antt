@@ -2,13 +2,13 @@
 use Prim.Native.Nat.{ℕ}
 use mathlib.Core.Path.{_≡_}
 use mathlib.Core.Bool.{Bool, true, false, not, _&&_}
-use mathlib.Core.List.{List, [], map}
+use mathlib.Core.List.{List, []}
 use lib.Dec.{leb, eqb}
 use lib.ListN.{length, take}
 use Rattle.defs.specs.Answer.{told, whenDone}
 use Rattle.defs.specs.Limits.{isRxqLimit}
 use Rattle.defs.specs.declared.answer.Answer.{Answer}
-use Rattle.conn_map.specs.Table.{Slot, slotsOf, chosen, soundTable}
+use Rattle.conn_map.specs.Table.{Slot, slotsOf, gathered, soundTable}
 use Rattle.conn_map.specs.Look.{recordAnswer}
 use Rattle.conn_map.specs.declared.key.ConnMapKey.{ConnMapKey}
 use Rattle.muxer_rxq.specs.Queue.{pack, QueuedLeft}
@@ -24,8 +24,8 @@ abbrev pub connTo : ConnMapKey → MuxerRx
 connTo key = record { rst = false; «local_port» = key .«local_port»; «peer_port» = key .«peer_port» }
 
 -- the connections of the pending slots, in slot order
-unfoldable pub pendingOf : List Slot → List MuxerRx
-pendingOf slots = map (λ (s : Slot). connTo (s .key)) (chosen isPending slots)
+abbrev pub pendingOf : List Slot → List MuxerRx
+pendingOf slots = gathered isPending (λ (s : Slot). connTo (s .key)) slots
 
 -- the first of them, as far as the limit goes; unsynced exactly if there are more
 unfoldable pub builtFrom : ℕ → List Slot → MuxerRxQ

@@ -20,27 +20,27 @@ returns : tie.Need-returns Inv-loop μ-loop
 returns c =
     let m = c .before .before .before .before in
     let t = m .before .before .before in
-    kept-full _ _ _ _ (t .before .loop .i) (t .loop-test .taken) _ (t .before .loop .inv .1) (sym (m .is-marked .ensures) ∙ c .before .if1 .taken) (c .if2 .taken)
+    kept-full _ _ _ _ _ (t .before .loop .i) (t .before .loop .inv .1) (t .loop-test .taken) (sym (m .is-marked .ensures) ∙ c .before .if1 .taken) (c .if2 .taken)
 
 mul-item : tie.Need-mul-item Inv-loop μ-loop
 mul-item c =
     let m = c .before .before .before .before in
     let t = m .before .before .before in
-    let h = room _ _ _ _ (t .before .loop .i) (t .loop-test .taken) _ (t .before .loop .inv .1) (sym (m .is-marked .ensures) ∙ c .before .if1 .taken) (c .if2 .left) in
+    let h = room _ _ _ _ _ (t .before .loop .i) (t .before .loop .inv .1) (t .loop-test .taken) (sym (m .is-marked .ensures) ∙ c .before .if1 .taken) (c .if2 .left) in
     omega arith
 
 element-set-from-item : tie.Need-element-set-from-item Inv-loop μ-loop
 element-set-from-item c =
     let m = c .before .before .before .before in
     let t = m .before .before .before in
-    let h = room _ _ _ _ (t .before .loop .i) (t .loop-test .taken) _ (t .before .loop .inv .1) (sym (m .is-marked .ensures) ∙ c .before .if1 .taken) (c .if2 .left) in
+    let h = room _ _ _ _ _ (t .before .loop .i) (t .before .loop .inv .1) (t .loop-test .taken) (sym (m .is-marked .ensures) ∙ c .before .if1 .taken) (c .if2 .left) in
     omega arith
 
 add-queue : tie.Need-add-queue Inv-loop μ-loop
 add-queue c =
     let m = c .before .before .before .before in
     let t = m .before .before .before in
-    let h = room _ _ _ _ (t .before .loop .i) (t .loop-test .taken) _ (t .before .loop .inv .1) (sym (m .is-marked .ensures) ∙ c .before .if1 .taken) (c .if2 .left) in
+    let h = room _ _ _ _ _ (t .before .loop .i) (t .before .loop .inv .1) (t .loop-test .taken) (sym (m .is-marked .ensures) ∙ c .before .if1 .taken) (c .if2 .left) in
     omega arith
 
 loop-again : tie.Need-loop-again Inv-loop μ-loop
@@ -48,17 +48,17 @@ loop-again c =
     let m = c .before .before .before .before in
     let t = m .before .before .before in (
       omega arith,
-      kept-take _ _ _ _ (t .before .loop .i) (t .loop-test .taken) _ (t .before .loop .inv .1) (sym (m .is-marked .ensures) ∙ c .before .if1 .taken) _ (c .before .before .connection .ensures) (c .if2 .left) (omega arith),
+      kept-take _ _ _ _ _ (t .before .loop .i) (t .before .loop .inv .1) (t .loop-test .taken) (sym (m .is-marked .ensures) ∙ c .before .if1 .taken) _ (c .before .before .connection .ensures) (c .if2 .left) (omega arith),
     )
 
 loop-again-2 : tie.Need-loop-again-2 Inv-loop μ-loop
 loop-again-2 c =
     let m = c .before .before .before in
     let t = m .before .before .before in
-    (omega arith, kept-skip _ _ _ _ (t .before .loop .i) (t .loop-test .taken) _ (t .before .loop .inv .1) (sym (m .is-marked .ensures) ∙ c .if1 .left))
+    (omega arith, kept-skip _ _ _ _ _ (t .before .loop .i) (t .before .loop .inv .1) (t .loop-test .taken) (sym (m .is-marked .ensures) ∙ c .if1 .left))
 
 returns-2 : tie.Need-returns-2 Inv-loop μ-loop
-returns-2 c = kept-end _ _ _ _ _ (c .before .loop .i) (c .loop-test .left) (c .before .loop .inv .1)
+returns-2 c = kept-end _ _ _ _ _ (c .before .loop .i) (c .before .loop .inv .1) (c .loop-test .left)
 
 pub walk-spec : {M : Type 1} → statement M
 walk-spec = tie.close (tie.spec Inv-loop μ-loop (λ c κs. search needs) loop-holds (λ c. search needs) (λ c. search needs) (λ c κs. search needs) (λ c. search needs) (λ c. search needs) (λ c κs. search needs) (λ c. search needs) returns mul-item element-set-from-item add-queue (λ c. search needs) loop-again (λ c. search needs) loop-again-2 returns-2)
