@@ -1,5 +1,5 @@
 -- Laws of `pop`: each end of the call. Assumes nothing.
-use Prim.Native.Nat.{ℕ, suc, _-_, _≤_, _<_}
+use Prim.Native.Nat.{ℕ, suc, _-_, _<_}
 use mathlib.Core.Path.{_≡_, refl, ap, sym, _∙_}
 use mathlib.Core.Logic.{⊎-elim}
 use mathlib.Core.Bool.{Bool, true, false, not, _&&_}
@@ -11,7 +11,7 @@ use lib.Dec.{ltb}
 use lib.ListN.{length, getD, take, drop, set, length-drop}
 use lib.Seq.{length-take-le}
 use Rattle.defs.specs.Answer.{told, isDone}
-use Rattle.defs.specs.Limits.{maxKillq, isClock}
+use Rattle.defs.specs.Limits.{maxKillq}
 use Rattle.defs.specs.declared.answer.Answer.{Answer}
 use Rattle.defs.specs.declared.answer.Answer.the-variants.{Done}
 use Rattle.defs.proofs.Basics.{both}

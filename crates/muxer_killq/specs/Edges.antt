@@ -1,5 +1,4 @@
 -- The reading of 01 that the kill queue decides: its share of i. Assumes nothing.
-use Prim.Native.Nat.{ℕ}
 use mathlib.Core.Bool.{true, false}
 use mathlib.Core.List.{List, [], _∷_}
 use Rattle.defs.specs.Answer.{told}

@@ -1,6 +1,6 @@
 -- Laws of `push`: the rearmost connection by a falling index, and each end of the call. Assumes nothing.
-use Prim.Native.Nat.{ℕ, zero, suc, _+_, _-_, _≤_, _<_}
-use mathlib.Core.Path.{_≡_, refl, ap, sym, _∙_}
+use Prim.Native.Nat.{ℕ, suc, _+_, _-_, _≤_, _<_}
+use mathlib.Core.Path.{_≡_, ap, sym, _∙_}
 use mathlib.Core.Logic.{⊎-elim}
 use mathlib.Core.Bool.{Bool, true, false, _&&_}
 use mathlib.Core.List.{List, [], _∷_, _++_}
@@ -11,12 +11,12 @@ use lib.Dec.{eqb, ltb}
 use lib.ListN.{length, getD, take, set, length-append, length-set}
 use lib.Seq.{take-suc, length-take-le}
 use Rattle.defs.specs.Choice.{when}
-use Rattle.defs.specs.Answer.{Told, told, isDone, whenDone}
+use Rattle.defs.specs.Answer.{told, isDone}
 use Rattle.defs.specs.Limits.{maxRxq}
 use Rattle.defs.specs.declared.answer.Answer.{Answer}
 use Rattle.defs.specs.declared.answer.Answer.the-variants.{Done, NotQueued}
 use Rattle.defs.proofs.Basics.{both, true-or-false}
-use Rattle.defs.proofs.ChoiceLaws.{when-true, when-false, ap-when}
+use Rattle.defs.proofs.ChoiceLaws.{when-true, when-false}
 use Rattle.defs.proofs.AnswerLaws.{NotDone, not-done, when-done, when-not-done}
 use Rattle.conn_map.specs.Look.{recordAnswer}
 use Rattle.conn_map.specs.Places.{padded}
@@ -27,7 +27,7 @@ use Rattle.muxer_rxq.specs.Push.{lastConn, pushList, pushOf, evicted}
 use Rattle.muxer_rxq.specs.declared.queue.MuxerRx.{MuxerRx}
 use Rattle.muxer_rxq.specs.declared.queue.MuxerRxQ.{MuxerRxQ}
 use Rattle.muxer_rxq.specs.declared.queue.Queued.{Queued}
-use Rattle.muxer_rxq.proofs.QueueLaws.{Sound, sound-says, packs, sound-packed}
+use Rattle.muxer_rxq.proofs.QueueLaws.{Sound, sound-says, packs}
 
 -- ---- the falling index
 

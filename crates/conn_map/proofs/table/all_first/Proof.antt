@@ -1,10 +1,8 @@
-use mathlib.Core.Path.{_≡_, refl, sym, _∙_}
-use mathlib.Core.Bool.{Bool, true, false}
-use Prim.Native.Nat.{_+_, _-_, _≤_, _<_}
-use lib.ListN.{length, getD}
+use mathlib.Core.Path.{_≡_, sym, _∙_}
+use mathlib.Core.Bool.{false}
+use Prim.Native.Nat.{_-_, _≤_}
 use native.Mathlib.Omega.{arith}
 use borrow.Author.Needs.{needs}
-use Rattle.conn_map.specs.Table.{seen}
 use Rattle.conn_map.proofs.TableLaws.{firstTo, first-none, first-more, first-end, first-hit, skip-unused, skip-first}
 use Rattle.conn_map.proofs.table.all_first.Statement.{statement}
 use Rattle.conn_map.proofs.table.all_first.Tie as tie

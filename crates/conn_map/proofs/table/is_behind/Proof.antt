@@ -1,10 +1,5 @@
-use mathlib.Core.Path.{_≡_, refl, sym, ap, _∙_}
-use mathlib.Core.Bool.{Bool, true, false, _||_}
-use Prim.Native.Nat.{_-_, _≤_, _<_}
-use lib.ListN.{length, getD}
-use native.Mathlib.Omega.{arith}
+use mathlib.Core.Path.{sym, _∙_}
 use borrow.Author.Needs.{needs}
-use Rattle.conn_map.specs.Table.{seen, behind, homeOf}
 use Rattle.conn_map.proofs.TableLaws.{behind-low, behind-hit, behind-rest}
 use Rattle.conn_map.proofs.table.is_behind.Statement.{statement}
 use Rattle.conn_map.proofs.table.is_behind.Tie as tie

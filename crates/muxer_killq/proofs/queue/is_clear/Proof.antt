@@ -1,10 +1,9 @@
-use Prim.Native.Nat.{ℕ, _+_, _-_, _≤_, _<_}
-use mathlib.Core.Path.{_≡_, refl, ap, sym, _∙_}
-use mathlib.Core.List.{_++_}
+use Prim.Native.Nat.{_-_}
+use mathlib.Core.Path.{_≡_, sym, _∙_}
 use native.Mathlib.Omega.{arith}
 use borrow.Author.Needs.{needs}
 use borrow.Author.Tests.{not-true, not-false}
-use lib.ListN.{length, getD, take, drop, set}
+use lib.ListN.{length, drop}
 use Rattle.defs.specs.Limits.{maxKillq}
 use Rattle.conn_map.proofs.PlacesLaws.{long}
 use Rattle.muxer_killq.specs.Item.{zeroItem}

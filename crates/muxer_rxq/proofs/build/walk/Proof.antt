@@ -2,7 +2,6 @@ use Prim.Native.Nat.{_-_, _≤_}
 use mathlib.Core.Path.{sym, _∙_}
 use native.Mathlib.Omega.{arith}
 use borrow.Author.Needs.{needs}
-use denote.Ref.{now}
 use Rattle.muxer_rxq.proofs.BuildLaws.{Kept, room, kept-start, kept-skip, kept-full, kept-take, kept-end}
 use Rattle.muxer_rxq.proofs.build.walk.Statement.{statement}
 use Rattle.muxer_rxq.proofs.build.walk.Tie as tie

@@ -1,8 +1,6 @@
-use Prim.Native.Nat.{ℕ}
-use mathlib.Core.Path.{_≡_, refl, ap, sym}
+use mathlib.Core.Path.{_≡_, sym}
 use borrow.Author.Needs.{needs}
 use lib.ListN.{length}
-use lib.Dec.{eqb}
 use Rattle.defs.specs.Limits.{maxRxq}
 use Rattle.conn_map.proofs.PlacesLaws.{long}
 use Rattle.conn_map.proofs.LookLaws.{len-told}

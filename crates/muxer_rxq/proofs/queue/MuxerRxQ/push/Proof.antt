@@ -3,7 +3,6 @@ use native.Mathlib.Omega.{arith}
 use borrow.Author.Needs.{needs}
 use lib.ListN.{length}
 use Rattle.defs.specs.Limits.{maxRxq}
-use Rattle.defs.specs.declared.answer.Answer.the-variants.{Done}
 use Rattle.conn_map.specs.Look.{recordAnswer}
 use Rattle.conn_map.proofs.PlacesLaws.{long}
 use Rattle.muxer_rxq.specs.Queue.{soundQ}
