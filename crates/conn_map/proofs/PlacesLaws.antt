@@ -9,7 +9,7 @@ use native.Mathlib.Nat.{not-suc-le-zero, eq-or-lt-of-le}
 use native.Mathlib.Omega.{arith}
 use lib.Dec.{leb}
 use borrow.Author.Tests.{lt-leb, le-leb}
-use lib.ListN.{length, getD, take, drop, set, replicate, length-map, length-append, length-drop, length-set, take-append-drop}
+use lib.ListN.{length, getD, take, drop, set, replicate, length-map, length-append, length-drop, length-take, length-set, take-append-drop}
 use lib.Seq.{take-suc, drop-cons, set-at, set-append-left, append-snoc, length-take-le, getD-drop, take-append-seam, drop-append-seam, take-at, take-all}
 use Rattle.defs.proofs.Basics.{both}
 use Rattle.conn_map.specs.Places.{padded, all}
@@ -90,6 +90,32 @@ module _ {A : Type 0} (N : ℕ) (z : A) where
       ∙ set-at l (getD P (length l) z) (drop (length l) (l ++ R)) z (length l) refl
       ∙ ap (λ (t : List A). l ++ (z ∷ t)) (drop-append-seam l R)
       ∙ ap (λ (n : ℕ). l ++ replicate n z) (let e : suc (N - suc (length l)) ≡ N - length l = omega arith in e)
+
+-- ---- a pop of places that hold items: the front, the rest, and the rest moved up
+
+module _ {A : Type 0} (N : ℕ) (z : A) (places : List A) (len : ℕ) (held : length (take len places) ≡ len) (h : 0 < len) where
+  inside : len ≤ length places
+  inside = omega (arith, length-take len places)
+
+  pub front-first : take len places ≡ getD places 0 z ∷ take (len - 1) (drop 1 places)
+  front-first = ap (λ (k : ℕ). take k places) (let k : len ≡ suc (len - 1) = omega arith in k) ∙ by places (len - 1) (omega (arith, inside))
+    where
+      by : (l : List A) (k : ℕ) → 0 < length l → take (suc k) l ≡ getD l 0 z ∷ take k (drop 1 l)
+      by [] k e = absurd (not-suc-le-zero e)
+      by (x ∷ l) k e = refl
+
+  pub rest-counted : len - 1 ≡ length (take (len - 1) (drop 1 places))
+  rest-counted = sym (length-take-le (len - 1) (drop 1 places) (omega (arith, inside, length-drop 1 places)))
+
+  pub moved-up : places ≡ padded N z (take len places) → len ≤ N
+      → set (take (len - 1) (drop 1 places) ++ drop (len - 1) places) (len - 1) z ≡ padded N z (take (len - 1) (drop 1 places))
+  moved-up cleared m =
+      let x : A = getD places 0 z in
+      let rest : List A = take (len - 1) (drop 1 places) in
+      let p : places ≡ padded N z (x ∷ rest) = cleared ∙ ap (padded N z) front-first in
+      ap (λ (l : List A). set (take (len - 1) (drop 1 l) ++ drop (len - 1) l) (len - 1) z) p
+      ∙ ap (λ (k : ℕ). set (take k (drop 1 (padded N z (x ∷ rest))) ++ drop k (padded N z (x ∷ rest))) k z) rest-counted
+      ∙ places-pop N z x rest (omega (arith, rest-counted))
 
 -- ---- a queue filled by a walk
 

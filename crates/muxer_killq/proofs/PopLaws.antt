@@ -1,15 +1,14 @@
 -- Laws of `pop`: each end of the call. Assumes nothing.
-use Prim.Native.Nat.{ℕ, suc, _-_, _<_}
-use mathlib.Core.Path.{_≡_, refl, ap, sym, _∙_}
+use Prim.Native.Nat.{ℕ, _-_, _<_}
+use mathlib.Core.Path.{_≡_, ap, sym, _∙_}
 use mathlib.Core.Logic.{⊎-elim}
 use mathlib.Core.Bool.{Bool, true, false, not, _&&_}
-use mathlib.Core.List.{List, [], _∷_, _++_}
+use mathlib.Core.List.{List, [], _∷_}
 use native.Mathlib.Omega.{arith}
-use native.Mathlib.Nat.{eq-zero-or-pos, not-suc-le-zero}
+use native.Mathlib.Nat.{eq-zero-or-pos}
 use borrow.Author.Tests.{not-false, ltb-true, lt-ltb}
 use lib.Dec.{ltb}
-use lib.ListN.{length, getD, take, drop, set, length-drop}
-use lib.Seq.{length-take-le}
+use lib.ListN.{length, getD, take, drop, set}
 use Rattle.defs.specs.Answer.{told, isDone}
 use Rattle.defs.specs.Limits.{maxKillq}
 use Rattle.defs.specs.declared.answer.Answer.{Answer}
@@ -18,9 +17,8 @@ use Rattle.defs.proofs.Basics.{both}
 use Rattle.defs.proofs.ChoiceLaws.{when-true, when-false}
 use Rattle.defs.proofs.AnswerLaws.{NotDone, not-done, when-done, when-not-done}
 use Rattle.defs.proofs.LadderLaws.{door-passed}
-use Rattle.conn_map.specs.Places.{padded}
 use Rattle.conn_map.specs.declared.key.ConnMapKey.{ConnMapKey}
-use Rattle.conn_map.proofs.PlacesLaws.{places-pop}
+use Rattle.conn_map.proofs.PlacesLaws.{front-first, rest-counted, moved-up}
 use Rattle.muxer_killq.specs.Item.{zeroItem}
 use Rattle.muxer_killq.specs.Queue.{soundQ, items, pack}
 use Rattle.muxer_killq.specs.Pop.{noKey, popAnswer, PopLeft, popList, popOf, movedUp}
@@ -32,10 +30,6 @@ use Rattle.muxer_killq.proofs.QueueLaws.{Sound, sound-says, packs, soun
 pub answer-passed : (a : Answer) (sound : Bool) (clock : ℕ) → a ≡ popAnswer sound clock → a ≡ Done → sound ≡ true
 unfolding popAnswer
 answer-passed a sound clock e d = not-false sound (door-passed _ _ _ _ (sym e ∙ d) .record-ok)
-
-front : (l : List MuxerKillQItem) (k : ℕ) → 0 < length l → take (suc k) l ≡ getD l 0 zeroItem ∷ take k (drop 1 l)
-front [] k h = absurd (not-suc-le-zero h)
-front (x ∷ l) k h = refl
 
 module _ (q : MuxerKillQ) (clock : ℕ) (a : Answer) (e : a ≡ popAnswer (soundQ q) clock) where
   pub pop-kept : (z : ConnMapKey) → z ≡ noKey → NotDone a → _≡_ {A = PopLeft} (record { answer = told a; found = false; key = z; queue = q }) (popOf (record { queue = q; clock = clock }))
@@ -55,7 +49,7 @@ module _ (q : MuxerKillQ) (clock : ℕ) (a : Answer) (e : a ≡ popAnswer (sound
 
     first : 0 < q .len → items q ≡ getD (q .q) 0 zeroItem ∷ rest
     unfolding rest
-    first h = ap (λ (k : ℕ). take k (q .q)) (let k : q .len ≡ suc (q .len - 1) = omega arith in k) ∙ front (q .q) (q .len - 1) (omega (arith, sound .most, sound .within))
+    first h = front-first maxKillq zeroItem (q .q) (q .len) (sound .held) h
 
     -- nothing to give: empty, or the front's time has not passed
     pub pop-none : (z : ConnMapKey) → z ≡ noKey → ltb 0 (q .len) && ltb (getD (q .q) 0 zeroItem .«kill_time») clock ≡ false
@@ -80,19 +74,14 @@ module _ (q : MuxerKillQ) (clock : ℕ) (a : Answer) (e : a ≡ popAnswer (sound
       pub some : 0 < q .len
       some = ltb-true 0 (q .len) (both (ltb 0 (q .len)) _ t .0)
 
-      rest-length : q .len - 1 ≡ length rest
-      unfolding rest
-      rest-length = sym (length-take-le (q .len - 1) (drop 1 (q .q)) (omega (arith, some, length-drop 1 (q .q), sound .most, sound .within)))
-
       -- the places moved up, the freed one zero
-      moved : set (movedUp q .q) (q .len - 1) zeroItem ≡ padded maxKillq zeroItem rest
+      moved : _≡_ {A = MuxerKillQ}
+          (record { q = set (movedUp q .q) (q .len - 1) zeroItem; len = q .len - 1; limit = q .limit; synced = q .synced })
+          (pack rest (q .limit) (q .synced))
       unfolding rest
       moved =
-          let x : MuxerKillQItem = getD (q .q) 0 zeroItem in
-          let p : q .q ≡ padded maxKillq zeroItem (x ∷ rest) = sound .places ∙ ap (padded maxKillq zeroItem) (first some) in
-          ap (λ (l : List MuxerKillQItem). set (take (q .len - 1) (drop 1 l) ++ drop (q .len - 1) l) (q .len - 1) zeroItem) p
-          ∙ ap (λ (k : ℕ). set (take k (drop 1 (padded maxKillq zeroItem (x ∷ rest))) ++ drop k (padded maxKillq zeroItem (x ∷ rest))) k zeroItem) rest-length
-          ∙ places-pop maxKillq zeroItem x rest (omega (arith, some, rest-length, sound .most, sound .within))
+          packs _ rest _ (q .limit) (q .synced) (rest-counted maxKillq zeroItem (q .q) (q .len) (sound .held) some)
+          (moved-up maxKillq zeroItem (q .q) (q .len) (sound .held) some (sound .places) (omega (arith, sound .most, sound .within)))
 
       pub pop-front : (m : MuxerKillQ) (z : MuxerKillQItem) → z ≡ zeroItem → m ≡ movedUp q
           → _≡_ {A = PopLeft}
@@ -113,5 +102,5 @@ module _ (q : MuxerKillQ) (clock : ℕ) (a : Answer) (e : a ≡ popAnswer (sound
             key = record { «local_port» = getD (q .q) 0 zeroItem .«local_port»; «peer_port» = getD (q .q) 0 zeroItem .«peer_port» };
             queue = x;
           })
-          (packs (set (movedUp q .q) (q .len - 1) zeroItem) rest (q .len - 1) (q .limit) (q .synced) rest-length moved)
+          moved
           ∙ sym (pop-list ∙ ap (λ (x : List MuxerKillQItem). popList clock x (q .limit) (q .synced)) (first some) ∙ when-true _ _ _ (both (ltb 0 (q .len)) _ t .1)))

@@ -1,22 +1,20 @@
 -- Laws of `peek` and `pop`: each end of the call. Assumes nothing.
-use Prim.Native.Nat.{ℕ, suc, _-_, _<_}
-use mathlib.Core.Path.{_≡_, refl, ap, sym, _∙_}
+use Prim.Native.Nat.{ℕ, _-_, _<_}
+use mathlib.Core.Path.{_≡_, ap, sym, _∙_}
 use mathlib.Core.Logic.{⊎-elim}
 use mathlib.Core.Bool.{true, false}
-use mathlib.Core.List.{List, [], _∷_, _++_}
+use mathlib.Core.List.{List, [], _∷_}
 use native.Mathlib.Omega.{arith}
-use native.Mathlib.Nat.{eq-zero-or-pos, not-suc-le-zero}
-use lib.ListN.{length, getD, take, drop, set, length-drop}
-use lib.Seq.{length-take-le}
+use native.Mathlib.Nat.{eq-zero-or-pos}
+use lib.ListN.{length, getD, take, drop, set}
 use Rattle.defs.specs.Answer.{told, isDone}
 use Rattle.defs.specs.Limits.{maxRxq}
 use Rattle.defs.specs.declared.answer.Answer.{Answer}
 use Rattle.defs.specs.declared.answer.Answer.the-variants.{Done}
 use Rattle.defs.proofs.AnswerLaws.{NotDone, not-done, when-done, when-not-done}
 use Rattle.conn_map.specs.Look.{recordAnswer}
-use Rattle.conn_map.specs.Places.{padded}
 use Rattle.conn_map.proofs.LookLaws.{record-passed}
-use Rattle.conn_map.proofs.PlacesLaws.{places-pop}
+use Rattle.conn_map.proofs.PlacesLaws.{front-first, rest-counted, moved-up}
 use Rattle.muxer_rxq.specs.Queue.{zeroItem, soundQ, items, pack}
 use Rattle.muxer_rxq.specs.Pop.{PeekLeft, peekList, peekOf, PopLeft, popList, popOf, movedUp}
 use Rattle.muxer_rxq.specs.declared.queue.MuxerRx.{MuxerRx}
@@ -25,10 +23,6 @@ use Rattle.muxer_rxq.proofs.QueueLaws.{Sound, sound-says, packs, sound-
 
 pub positive : (k : ℕ) → (k ≡ 0 → ⊥) → 0 < k
 positive k z = ⊎-elim (λ (e : k ≡ 0). absurd (z e)) (λ (h : 0 < k). h) (eq-zero-or-pos k)
-
-front : (l : List MuxerRx) (k : ℕ) → 0 < length l → take (suc k) l ≡ getD l 0 zeroItem ∷ take k (drop 1 l)
-front [] k h = absurd (not-suc-le-zero h)
-front (x ∷ l) k h = refl
 
 none : (l : List MuxerRx) (k : ℕ) → k ≡ 0 → take k l ≡ []
 none l k e = rw e
@@ -73,25 +67,20 @@ module _ (q : MuxerRxQ) (a : Answer) (e : a ≡ recordAnswer (soundQ q)) (z : Mu
 
       first : items q ≡ getD (q .q) 0 zeroItem ∷ rest
       unfolding rest
-      first = ap (λ (k : ℕ). take k (q .q)) (let k : q .len ≡ suc (q .len - 1) = omega arith in k) ∙ front (q .q) (q .len - 1) (omega (arith, sound .most, sound .within))
+      first = front-first maxRxq zeroItem (q .q) (q .len) (sound .held) h
 
       pub peek-front : _≡_ {A = PeekLeft} (record { answer = told a; found = true; item = getD (q .q) 0 zeroItem }) (peekOf q)
       unfolding peekList
       peek-front = rw d (sym (peek-list ∙ ap peekList first))
 
-      rest-length : q .len - 1 ≡ length rest
-      unfolding rest
-      rest-length = sym (length-take-le (q .len - 1) (drop 1 (q .q)) (omega (arith, length-drop 1 (q .q), sound .most, sound .within)))
-
       -- the places moved up, the freed one zero
-      moved : set (movedUp q .q) (q .len - 1) zeroItem ≡ padded maxRxq zeroItem rest
+      moved : _≡_ {A = MuxerRxQ}
+          (record { q = set (movedUp q .q) (q .len - 1) zeroItem; len = q .len - 1; limit = q .limit; synced = q .synced })
+          (pack rest (q .limit) (q .synced))
       unfolding rest
       moved =
-          let x : MuxerRx = getD (q .q) 0 zeroItem in
-          let p : q .q ≡ padded maxRxq zeroItem (x ∷ rest) = sound .places ∙ ap (padded maxRxq zeroItem) first in
-          ap (λ (l : List MuxerRx). set (take (q .len - 1) (drop 1 l) ++ drop (q .len - 1) l) (q .len - 1) zeroItem) p
-          ∙ ap (λ (k : ℕ). set (take k (drop 1 (padded maxRxq zeroItem (x ∷ rest))) ++ drop k (padded maxRxq zeroItem (x ∷ rest))) k zeroItem) rest-length
-          ∙ places-pop maxRxq zeroItem x rest (omega (arith, rest-length, sound .most, sound .within))
+          packs _ rest _ (q .limit) (q .synced) (rest-counted maxRxq zeroItem (q .q) (q .len) (sound .held) h)
+          (moved-up maxRxq zeroItem (q .q) (q .len) (sound .held) h (sound .places) (omega (arith, sound .most, sound .within)))
 
       pub pop-front : (m : MuxerRxQ) → m ≡ movedUp q
           → _≡_ {A = PopLeft} (record { answer = told a; found = true; item = getD (q .q) 0 zeroItem; queue = record { q = set (m .q) (q .len - 1) z; len = q .len - 1; limit = m .limit; synced = m .synced } }) (popOf q)
@@ -99,5 +88,5 @@ module _ (q : MuxerRxQ) (a : Answer) (e : a ≡ recordAnswer (soundQ q)) (z : Mu
       pop-front m f =
           rw (d, w, f)
           (ap (λ (x : MuxerRxQ). record { answer = told Done; found = true; item = getD (q .q) 0 zeroItem; queue = x })
-          (packs (set (movedUp q .q) (q .len - 1) zeroItem) rest (q .len - 1) (q .limit) (q .synced) rest-length moved)
+          moved
           ∙ sym (pop-list ∙ ap (λ (x : List MuxerRx). popList x (q .limit) (q .synced)) first))
