@@ -1,0 +1,4 @@
+pub mod TableLaws
+pub mod PlacesLaws
+pub mod LookLaws
+pub mod Promises

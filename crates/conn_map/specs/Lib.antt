@@ -1,0 +1,5 @@
+pub mod Key
+pub mod Table
+pub mod Places
+pub mod Look
+pub mod Promises

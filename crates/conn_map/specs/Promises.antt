@@ -1,0 +1,42 @@
+-- What this crate promises, in statements only; proofs/Promises has a line for each. Assumes nothing.
+use Prim.Native.Nat.{ℕ, _<_}
+use mathlib.Core.Path.{_≡_}
+use mathlib.Core.Bool.{Bool, true}
+use mathlib.Core.List.{List}
+use lib.ListN.{length, getD}
+use Rattle.defs.specs.Limits.{isSlotCount}
+use Rattle.defs.specs.Pinned.{Pinned}
+use Rattle.defs.specs.Promises.{Exactly}
+use Rattle.conn_map.specs.Key.{keyOf}
+use Rattle.conn_map.specs.Table.{usedAt, soundTable}
+use Rattle.conn_map.specs.Look.{recordAnswer, FlagLeft, FlagSays, LenLeft, LenSays}
+use Rattle.defs.specs.declared.answer.Answer.{Answer}
+use Rattle.conn_map.specs.declared.key.ConnMapKey.{ConnMapKey}
+
+-- 01: no two used slots have the same ports
+abbrev pub NoTwoAlike : List ℕ → List ℕ → Type 0
+NoTwoAlike ports used =
+    (i j : ℕ) → i < j → j < length ports → usedAt used i ≡ true → usedAt used j ≡ true → keyOf (getD ports i 0) ≡ keyOf (getD ports j 0) → ⊥
+
+-- the test of a table says what 01 says: the slot count in range, the slices equally long, no two used slots with the same ports
+abbrev pub SoundMeansDistinct : Type 0
+SoundMeansDistinct =
+    (ports used : List ℕ) (marks : ℕ)
+    → Exactly (soundTable ports used marks ≡ true) ((isSlotCount (length ports) ≡ true) × (length used ≡ length ports) × (marks ≡ length ports) × NoTwoAlike ports used)
+
+-- one number for both ports tells keys apart
+abbrev pub PortsTellKeys : Type 0
+PortsTellKeys = (a b : ℕ) → keyOf a ≡ keyOf b → a ≡ b
+
+pub record TableIn : Type 0 where
+  pub ports : List ℕ
+  pub used : List ℕ
+  pub marks : ℕ
+
+-- every public call: any two outcomes that meet its contract are identical
+pub record EachCallPinned : Type 0 where
+  pub key-of : Pinned ℕ ConnMapKey (λ ports r. r ≡ keyOf ports)
+  pub is-sound : Pinned TableIn Bool (λ i r. r ≡ soundTable (i .ports) (i .used) (i .marks))
+  pub record-answer : Pinned Bool Answer (λ sound r. r ≡ recordAnswer sound)
+  pub flag-of : Pinned (Bool × Bool) FlagLeft (λ i left. FlagSays (i .0) (i .1) left)
+  pub len-of : Pinned (Bool × ℕ) LenLeft (λ i left. LenSays (i .0) (i .1) left)

@@ -1,0 +1,15 @@
+// The connection table as the queues see it (muxer_impl.rs, `HashMap<ConnMapKey, VsockConnection>`):
+// lent parallel slices of numbers in slot order, so that a walk over it has one order. Beside it
+// stands what the two queues share.
+mod key;
+mod look;
+mod table;
+
+pub use key::ConnMapKey;
+pub use key::key_of;
+pub use look::Flag;
+pub use look::Len;
+pub use look::flag_of;
+pub use look::len_of;
+pub use look::record_answer;
+pub use table::is_sound;

@@ -1,0 +1,42 @@
+-- The promises of specs/Promises, each by its law. Assumes nothing.
+use mathlib.Core.Path.{refl}
+use Rattle.defs.specs.Choice.{when}
+use Rattle.defs.specs.Answer.{isDone, whenDone}
+use Rattle.defs.specs.Limits.{isKillqLimit, isClock}
+use Rattle.defs.specs.Ladder.{doorOf}
+use Rattle.defs.proofs.Pins.{by-equation}
+use Rattle.conn_map.specs.Places.{all}
+use Rattle.muxer_killq.specs.Item.{zeroItem, isZero}
+use Rattle.muxer_killq.specs.Queue.{soundQ}
+use Rattle.muxer_killq.specs.Pop.{popAnswer, popList, popOf}
+use Rattle.muxer_killq.specs.Edges.{readingI}
+use Rattle.muxer_killq.specs.Promises.{QueueIsItsList, EverySortIsStable, EdgesHold, EachCallPinned}
+use Rattle.muxer_killq.proofs.QueueLaws as queues
+use Rattle.muxer_killq.proofs.SortLaws as sorts
+
+pub queue-is-its-list : QueueIsItsList
+queue-is-its-list = queues.queue-is-its-list
+
+pub every-sort-is-stable : EverySortIsStable
+every-sort-is-stable = sorts.every-sort-is-stable
+
+pub edges-hold : EdgesHold
+unfolding when isDone whenDone isKillqLimit isClock doorOf all isZero soundQ popAnswer popList popOf readingI
+edges-hold = record { i = (refl, (refl, tt)) }
+
+pub each-call-pinned : EachCallPinned
+each-call-pinned = record {
+  new = by-equation _ _ _;
+  from-conn-map = by-equation _ _ _;
+  push = by-equation _ _ _;
+  pop = by-equation _ _ _;
+  eq = by-equation _ _ _;
+  is-sound = by-equation _ _ _;
+  is-synced = by-equation _ _ _;
+  is-empty = by-equation _ _ _;
+  is-full = by-equation _ _ _;
+  zero-item = by-equation _ _ (λ i. zeroItem);
+  is-zero = by-equation _ _ _;
+  empty = by-equation _ _ _;
+  pop-answer = by-equation _ _ _;
+}

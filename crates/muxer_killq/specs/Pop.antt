@@ -1,0 +1,69 @@
+-- `pop` (01, "The two queues"). Assumes nothing.
+use Prim.Native.Nat.{ℕ, _-_}
+use mathlib.Core.Path.{_≡_}
+use mathlib.Core.Bool.{Bool, true, false, not}
+use mathlib.Core.List.{List, [], _∷_, _++_}
+use lib.Dec.{ltb}
+use lib.ListN.{take, drop}
+use Rattle.defs.specs.Choice.{when}
+use Rattle.defs.specs.Answer.{Told, told, whenDone}
+use Rattle.defs.specs.Limits.{isClock}
+use Rattle.defs.specs.Ladder.{doorOf}
+use Rattle.defs.specs.declared.answer.Answer.{Answer}
+use Rattle.defs.specs.declared.answer.Answer.the-variants.{Done}
+use Rattle.conn_map.specs.declared.key.ConnMapKey.{ConnMapKey}
+use Rattle.muxer_killq.specs.Queue.{soundQ, items, pack}
+use Rattle.muxer_killq.specs.declared.item.MuxerKillQItem.{MuxerKillQItem}
+use Rattle.muxer_killq.specs.declared.queue.MuxerKillQ.{MuxerKillQ}
+
+pub record PopIn : Type 0 where
+  pub queue : MuxerKillQ
+  pub clock : ℕ
+
+pub record PopLeft : Type 0 where
+  pub answer : Told
+  pub found : Bool
+  pub key : ConnMapKey
+  pub queue : MuxerKillQ
+
+-- 01's table: 1, then 3
+unfoldable pub popAnswer : Bool → ℕ → Answer
+popAnswer sound clock = doorOf (not sound) false (not (isClock clock)) false
+
+abbrev pub noKey : ConnMapKey
+noKey = record { «local_port» = 0; «peer_port» = 0 }
+
+abbrev none : Answer → MuxerKillQ → PopLeft
+none answer q = record { answer = told answer; found = false; key = noKey; queue = q }
+
+-- the front item goes if now is after its time, sync stays; with nothing to give nothing changes
+unfoldable pub popList : ℕ → List MuxerKillQItem → ℕ → Bool → PopLeft
+popList clock [] limit synced = none Done (pack [] limit synced)
+popList clock (x ∷ l) limit synced =
+    when (ltb (x .«kill_time») clock)
+    (record { answer = told Done; found = true; key = record { «local_port» = x .«local_port»; «peer_port» = x .«peer_port» }; queue = pack l limit synced })
+    (none Done (pack (x ∷ l) limit synced))
+
+abbrev pub popAnswerOf : PopIn → Answer
+popAnswerOf i = popAnswer (soundQ (i .queue)) (i .clock)
+
+-- a refusal changes nothing
+unfoldable pub popOf : PopIn → PopLeft
+popOf i =
+    whenDone (popAnswerOf i)
+    (popList (i .clock) (items (i .queue)) (i .queue .limit) (i .queue .synced))
+    (none (popAnswerOf i) (i .queue))
+
+-- THE STATEMENT of `pop`
+abbrev pub PopSays : PopIn → PopLeft → Type 0
+PopSays i left = left ≡ popOf i
+
+-- ---- within a pop: the items one place nearer to the front, the last place as it was
+
+abbrev pub movedUp : MuxerKillQ → MuxerKillQ
+movedUp q = record {
+  q = take (q .len - 1) (drop 1 (q .q)) ++ drop (q .len - 1) (q .q);
+  len = q .len;
+  limit = q .limit;
+  synced = q .synced;
+}

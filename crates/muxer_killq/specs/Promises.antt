@@ -1,0 +1,66 @@
+-- What this crate promises, in statements only; proofs/Promises has a line for each. Assumes nothing.
+use Prim.Native.Nat.{ℕ, _≤_}
+use mathlib.Core.Path.{_≡_}
+use mathlib.Core.Bool.{Bool, true}
+use mathlib.Core.List.{List, [], _∷_}
+use lib.Dec.{eqb}
+use lib.ListN.{length}
+use Rattle.defs.specs.Limits.{maxKillq, isKillqLimit}
+use Rattle.defs.specs.Pinned.{Pinned}
+use Rattle.defs.specs.Reading.{Hold}
+use Rattle.defs.specs.declared.answer.Answer.{Answer}
+use Rattle.conn_map.specs.Table.{chosen}
+use Rattle.conn_map.specs.Look.{FlagLeft, FlagSays}
+use Rattle.muxer_killq.specs.Item.{zeroItem, isZero, isAlike}
+use Rattle.muxer_killq.specs.Queue.{soundQ, items, pack, QueuedLeft, NewSays}
+use Rattle.muxer_killq.specs.Push.{PushIn, PushSays}
+use Rattle.muxer_killq.specs.Pop.{popAnswer, PopIn, PopLeft, PopSays}
+use Rattle.muxer_killq.specs.Sort.{sortByTime}
+use Rattle.muxer_killq.specs.Build.{BuildIn, BuildSays}
+use Rattle.muxer_killq.specs.Edges.{readingI}
+use Rattle.muxer_killq.specs.declared.item.MuxerKillQItem.{MuxerKillQItem}
+use Rattle.muxer_killq.specs.declared.queue.MuxerKillQ.{MuxerKillQ}
+
+-- the queue means its list: a list within the limit makes a sound queue that holds it, and a sound queue is the one that its items make
+pub record QueueIsItsList : Type 0 where
+  pub packed-sound : (l : List MuxerKillQItem) (limit : ℕ) (synced : Bool) → isKillqLimit limit ≡ true → length l ≤ limit → soundQ (pack l limit synced) ≡ true
+  pub packed-items : (l : List MuxerKillQItem) (limit : ℕ) (synced : Bool) → items (pack l limit synced) ≡ l
+  pub sound-packed : (q : MuxerKillQ) → length (q .q) ≡ maxKillq → soundQ q ≡ true → q ≡ pack (items q) (q .limit) (q .synced)
+
+-- no item is earlier than the one before it
+abbrev pub NotBefore : ℕ → List MuxerKillQItem → Type 0
+NotBefore time [] = Unit
+NotBefore time (y ∷ l) = time ≤ y .«kill_time»
+
+abbrev pub Sorted : List MuxerKillQItem → Type 0
+Sorted [] = Unit
+Sorted (x ∷ l) = NotBefore (x .«kill_time») l × Sorted l
+
+-- the sort: the result is sorted, holds what came in as often (whatever test is put to it), and items of one time keep their order
+pub record SortIsStable (l : List MuxerKillQItem) : Type 0 where
+  pub is-sorted : Sorted (sortByTime l)
+  pub permutes : (test : MuxerKillQItem → Bool) → length (chosen test (sortByTime l)) ≡ length (chosen test l)
+  pub stable : (time : ℕ) → chosen (λ (x : MuxerKillQItem). eqb (x .«kill_time») time) (sortByTime l) ≡ chosen (λ (x : MuxerKillQItem). eqb (x .«kill_time») time) l
+
+abbrev pub EverySortIsStable : Type 0
+EverySortIsStable = (l : List MuxerKillQItem) → SortIsStable l
+
+-- 01's readings at the edges of this crate
+pub record EdgesHold : Type 0 where
+  pub i : Hold readingI
+
+-- every public call: any two outcomes that meet its contract are identical
+pub record EachCallPinned : Type 0 where
+  pub new : Pinned ℕ QueuedLeft NewSays
+  pub from-conn-map : Pinned BuildIn QueuedLeft BuildSays
+  pub push : Pinned PushIn QueuedLeft PushSays
+  pub pop : Pinned PopIn PopLeft PopSays
+  pub eq : Pinned (MuxerKillQItem × MuxerKillQItem) Bool (λ i r. r ≡ isAlike (i .0) (i .1))
+  pub is-sound : Pinned MuxerKillQ Bool (λ q r. r ≡ soundQ q)
+  pub is-synced : Pinned MuxerKillQ FlagLeft (λ q left. FlagSays (soundQ q) (q .synced) left)
+  pub is-empty : Pinned MuxerKillQ FlagLeft (λ q left. FlagSays (soundQ q) (eqb (length (items q)) 0) left)
+  pub is-full : Pinned MuxerKillQ FlagLeft (λ q left. FlagSays (soundQ q) (eqb (length (items q)) (q .limit)) left)
+  pub zero-item : Pinned Unit MuxerKillQItem (λ i r. r ≡ zeroItem)
+  pub is-zero : Pinned MuxerKillQItem Bool (λ it r. r ≡ isZero it)
+  pub empty : Pinned ℕ MuxerKillQ (λ limit r. r ≡ pack [] limit true)
+  pub pop-answer : Pinned (Bool × ℕ) Answer (λ i r. r ≡ popAnswer (i .0) (i .1))

@@ -1,0 +1,42 @@
+-- `push` (01, "The two queues"). Assumes nothing.
+use Prim.Native.Nat.{ℕ}
+use mathlib.Core.Path.{_≡_}
+use mathlib.Core.Bool.{Bool, false, _&&_}
+use mathlib.Core.List.{List, [], _∷_, _++_}
+use lib.Dec.{ltb}
+use lib.ListN.{length}
+use Rattle.defs.specs.Choice.{when}
+use Rattle.defs.specs.Answer.{told, whenDone}
+use Rattle.defs.specs.declared.answer.Answer.the-variants.{Done, NotQueued}
+use Rattle.conn_map.specs.Look.{recordAnswer}
+use Rattle.conn_map.specs.declared.key.ConnMapKey.{ConnMapKey}
+use Rattle.muxer_killq.specs.Queue.{soundQ, items, pack, QueuedLeft}
+use Rattle.muxer_killq.specs.declared.item.MuxerKillQItem.{MuxerKillQItem}
+use Rattle.muxer_killq.specs.declared.queue.MuxerKillQ.{MuxerKillQ}
+
+pub record PushIn : Type 0 where
+  pub queue : MuxerKillQ
+  pub key : ConnMapKey
+  pub «kill_time» : ℕ
+
+-- a connection to be ended at a time
+abbrev pub itemAt : ConnMapKey → ℕ → MuxerKillQItem
+itemAt key time = record { «local_port» = key .«local_port»; «peer_port» = key .«peer_port»; «kill_time» = time }
+
+-- synced and not full: append, unsorted. Otherwise turned down, and unsyncs
+unfoldable pub pushList : List MuxerKillQItem → ℕ → Bool → MuxerKillQItem → QueuedLeft
+pushList l limit synced it =
+    when (synced && ltb (length l) limit)
+    (record { answer = told Done; queue = pack (l ++ (it ∷ [])) limit synced })
+    (record { answer = told NotQueued; queue = pack l limit false })
+
+-- a refusal changes nothing
+unfoldable pub pushOf : PushIn → QueuedLeft
+pushOf i =
+    whenDone (recordAnswer (soundQ (i .queue)))
+    (pushList (items (i .queue)) (i .queue .limit) (i .queue .synced) (itemAt (i .key) (i .«kill_time»)))
+    (record { answer = told (recordAnswer (soundQ (i .queue))); queue = i .queue })
+
+-- THE STATEMENT of `push`
+abbrev pub PushSays : PushIn → QueuedLeft → Type 0
+PushSays i left = left ≡ pushOf i

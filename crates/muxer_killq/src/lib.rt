@@ -1,0 +1,13 @@
+// The muxer's kill queue (muxer_killq.rs): connections that are to be ended, each at its time. It is
+// smaller than the connection table, so it may lose sync with it; then the muxer drains it and
+// builds it anew. Items stand in an array by value, front at place 0.
+mod build;
+mod item;
+mod pop;
+mod push;
+mod queue;
+
+pub use item::MuxerKillQItem;
+pub use pop::Popped;
+pub use queue::MuxerKillQ;
+pub use queue::Queued;

@@ -1,0 +1,106 @@
+// The queue's record: what is sound, and the calls that only look at it.
+ghost use mathlib.Core.Path.{_≡_};
+ghost use mathlib.Core.Bool.{true};
+ghost use mathlib.Core.List.{[]};
+ghost use lib.ListN.{drop, length};
+ghost use lib.Dec.{eqb};
+ghost use Rattle.defs.specs.Answer.{told};
+ghost use Rattle.conn_map.specs.Places.{all};
+ghost use Rattle.conn_map.specs.Look.{FlagLeft, FlagSays};
+ghost use Rattle.muxer_killq.specs.Item.{isZero};
+ghost use Rattle.muxer_killq.specs.Queue.{soundQ, items, pack, QueuedLeft, NewSays};
+use crate::item::MuxerKillQItem;
+use crate::item::is_zero;
+use conn_map::Flag;
+use defs::Answer;
+use defs::limits;
+use defs::limits::MAX_KILLQ_SIZE;
+
+// The places from `len` on hold the zero item.
+pub struct MuxerKillQ {
+    pub q: [MuxerKillQItem; MAX_KILLQ_SIZE],
+    pub len: usize,
+    pub limit: usize,
+    pub synced: bool,
+}
+
+pub struct Queued {
+    pub answer: Answer,
+    pub queue: MuxerKillQ,
+}
+
+impl MuxerKillQ {
+    // An empty, synced queue of a given limit; of limit 0 where no queue has that limit.
+    pub fn new(limit: usize) -> Queued
+        ensures { λ r. ⌜ NewSays limit (record { answer = told (r .answer); queue = r .queue }) ⌝ }
+    {
+        let answer = conn_map::record_answer(limits::is_killq_limit(limit));
+        let Answer::Done = answer else {
+            return Queued {
+                answer,
+                queue: empty(0),
+            };
+        };
+        Queued {
+            answer,
+            queue: empty(limit),
+        }
+    }
+
+    pub fn is_sound(self) -> bool
+        ensures { λ r. ⌜ r ≡ soundQ self ⌝ }
+    {
+        limits::is_killq_limit(self.limit) & (self.len <= self.limit) & is_clear(self)
+    }
+
+    pub fn is_synced(self) -> Flag
+        ensures { λ r. ⌜ FlagSays (soundQ self) (self .synced) (record { answer = told (r .answer); holds = r .holds }) ⌝ }
+    {
+        conn_map::flag_of(self.is_sound(), self.synced)
+    }
+
+    pub fn is_empty(self) -> Flag
+        ensures { λ r. ⌜ FlagSays (soundQ self) (eqb (length (items self)) 0) (record { answer = told (r .answer); holds = r .holds }) ⌝ }
+    {
+        conn_map::flag_of(self.is_sound(), self.len == 0)
+    }
+
+    pub fn is_full(self) -> Flag
+        ensures { λ r. ⌜ FlagSays (soundQ self) (eqb (length (items self)) (self .limit)) (record { answer = told (r .answer); holds = r .holds }) ⌝ }
+    {
+        conn_map::flag_of(self.is_sound(), self.len == self.limit)
+    }
+}
+
+// An empty, synced queue.
+pub fn empty(limit: usize) -> MuxerKillQ
+    ensures { λ r. ⌜ r ≡ pack [] limit true ⌝ }
+{
+    let zero = MuxerKillQItem {
+        local_port: 0,
+        peer_port: 0,
+        kill_time: 0,
+    };
+    let q = [zero; MAX_KILLQ_SIZE];
+    MuxerKillQ {
+        q,
+        len: 0,
+        limit,
+        synced: true,
+    }
+}
+
+// Whether every place past the length holds the zero item.
+fn is_clear(queue: MuxerKillQ) -> bool
+    ensures { λ r. ⌜ r ≡ all isZero (drop (queue .len) (queue .q)) ⌝ }
+{
+    let mut i = queue.len;
+    while i < MAX_KILLQ_SIZE {
+        let it = queue.q[i];
+        if !is_zero(it) {
+            return false;
+        }
+        i += 1;
+    }
+    true
+}

@@ -1,0 +1,41 @@
+-- The reading of 01 that the RX queue decides: j (Q = 2). Assumes nothing.
+use Prim.Native.Nat.{ℕ}
+use mathlib.Core.Bool.{Bool, true, false}
+use mathlib.Core.List.{List, [], _∷_}
+use Rattle.defs.specs.Answer.{told}
+use Rattle.defs.specs.Reading.{Reading, _reads_}
+use Rattle.defs.specs.declared.answer.Answer.the-variants.{Done, NotQueued}
+use Rattle.muxer_rxq.specs.Queue.{pack, QueuedLeft}
+use Rattle.muxer_rxq.specs.Push.{pushOf}
+use Rattle.muxer_rxq.specs.Pop.{PopLeft, popOf}
+use Rattle.muxer_rxq.specs.declared.queue.MuxerRx.{MuxerRx}
+use Rattle.muxer_rxq.specs.declared.queue.MuxerRxQ.{MuxerRxQ}
+
+-- a connection and an RST, told by their local port
+abbrev conn : ℕ → MuxerRx
+conn n = record { rst = false; «local_port» = n; «peer_port» = 0 }
+
+abbrev rst : ℕ → MuxerRx
+rst n = record { rst = true; «local_port» = n; «peer_port» = 0 }
+
+abbrev two : MuxerRx → MuxerRx → Bool → MuxerRxQ
+two a b synced = pack (a ∷ b ∷ []) 2 synced
+
+abbrev afterR : QueuedLeft
+afterR = pushOf (record { queue = two (conn 1) (conn 2) true; rx = rst 8 })
+
+abbrev afterS : QueuedLeft
+afterS = pushOf (record { queue = afterR .queue; rx = rst 9 })
+
+abbrev popped : PopLeft
+popped = popOf (afterS .queue)
+
+-- j: [C1 C2]: RST r gives [C1 r], s gives [s r], a third 11; pop, then an RST: 11, not full
+unfoldable pub readingJ : List Reading
+readingJ =
+    (afterR reads record { answer = told Done; queue = two (conn 1) (rst 8) false })
+    ∷ (afterS reads record { answer = told Done; queue = two (rst 9) (rst 8) false })
+    ∷ (pushOf (record { queue = afterS .queue; rx = rst 10 }) reads record { answer = told NotQueued; queue = two (rst 9) (rst 8) false })
+    ∷ (popped reads record { answer = told Done; found = true; item = rst 9; queue = pack (rst 8 ∷ []) 2 false })
+    ∷ (pushOf (record { queue = popped .queue; rx = rst 10 }) reads record { answer = told NotQueued; queue = pack (rst 8 ∷ []) 2 false })
+    ∷ []

@@ -1,0 +1,6 @@
+pub mod Queue
+pub mod Push
+pub mod Pop
+pub mod Build
+pub mod Edges
+pub mod Promises

@@ -1,0 +1,104 @@
+// Taking from the front, and looking there.
+ghost use mathlib.Core.Path.{_≡_};
+ghost use Prim.Native.Nat.{_<_, _≤_};
+ghost use Rattle.defs.specs.Answer.{told};
+ghost use Rattle.defs.specs.Limits.{maxRxq};
+ghost use Rattle.muxer_rxq.specs.Pop.{movedUp, PeekLeft, PeekSays, PopLeft, PopSays};
+use crate::queue::MuxerRx;
+use crate::queue::MuxerRxQ;
+use crate::queue::zero_item;
+use defs::Answer;
+
+// `item` is the zero item where none was found.
+pub struct Peeked {
+    pub answer: Answer,
+    pub found: bool,
+    pub item: MuxerRx,
+}
+
+pub struct Popped {
+    pub answer: Answer,
+    pub found: bool,
+    pub item: MuxerRx,
+    pub queue: MuxerRxQ,
+}
+
+impl MuxerRxQ {
+    pub fn peek(self) -> Peeked
+        ensures { λ r. ⌜ PeekSays self (record { answer = told (r .answer); found = r .found; item = r .item }) ⌝ }
+    {
+        let none = zero_item();
+        let answer = conn_map::record_answer(self.is_sound());
+        let Answer::Done = answer else {
+            return Peeked {
+                answer,
+                found: false,
+                item: none,
+            };
+        };
+        if self.len == 0 {
+            return Peeked {
+                answer,
+                found: false,
+                item: none,
+            };
+        }
+        let item = self.q[0];
+        Peeked {
+            answer,
+            found: true,
+            item,
+        }
+    }
+
+    // Sync is as it was, also where the queue has room again: only a build restores it.
+    pub fn pop(self) -> Popped
+        ensures { λ r. ⌜ PopSays self (record { answer = told (r .answer); found = r .found; item = r .item; queue = r .queue }) ⌝ }
+    {
+        let none = zero_item();
+        let answer = conn_map::record_answer(self.is_sound());
+        let Answer::Done = answer else {
+            return Popped {
+                answer,
+                found: false,
+                item: none,
+                queue: self,
+            };
+        };
+        if self.len == 0 {
+            return Popped {
+                answer,
+                found: false,
+                item: none,
+                queue: self,
+            };
+        }
+        let item = self.q[0];
+        let last = self.len - 1;
+        let mut queue = move_up(self);
+        queue.q[last] = none;
+        queue.len = last;
+        Popped {
+            answer,
+            found: true,
+            item,
+            queue,
+        }
+    }
+}
+
+// The items from place 1 on moved one place to the front; the last place stays.
+fn move_up(queue: MuxerRxQ) -> MuxerRxQ
+    requires { ⌜ (0 < queue .len) × (queue .len ≤ maxRxq) ⌝ }
+    ensures { λ r. ⌜ r ≡ movedUp queue ⌝ }
+{
+    let mut next = queue;
+    let last = queue.len - 1;
+    let mut i = 0;
+    while i < last {
+        let it = queue.q[i + 1];
+        next.q[i] = it;
+        i += 1;
+    }
+    next
+}
