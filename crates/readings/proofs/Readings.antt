@@ -1,26 +1,45 @@
 -- The one list holds, since each crate's part does. Assumes nothing.
 use mathlib.Core.Path.{refl}
 use mathlib.Core.List.{_++_}
-use Rattle.defs.specs.Edges.{readingE, readingH}
-use Rattle.packet.specs.Edges.{readingA}
-use Rattle.txbuf.specs.Edges.{readingBCD, readingF}
+use Rattle.defs.specs.Reading.{Hold}
+use Rattle.defs.specs.Edges.{readingE as ruleE, readingH as formulaH}
+use Rattle.packet.specs.Edges.{readingA as bytesOfA}
+use Rattle.txbuf.specs.Edges.{readingBCD as ringBCD, readingF}
+use Rattle.connection.specs.Edges.{readingA, readingBCD, readingE, readingG, readingH}
+use Rattle.muxer_killq.specs.Edges.{readingI}
+use Rattle.muxer_rxq.specs.Edges.{readingJ}
 use Rattle.defs.proofs.Readings.{hold-append}
 use Rattle.defs.proofs.Promises.{edges-hold as defs-edges}
 use Rattle.packet.proofs.Promises.{edges-hold as packet-edges}
 use Rattle.txbuf.proofs.Promises.{edges-hold as txbuf-edges}
-use Rattle.readings.specs.Readings.{readings, NoneLeftOut, ReadingsHold}
+use Rattle.connection.proofs.Promises.{edges-hold as connection-edges}
+use Rattle.muxer_killq.proofs.Promises.{edges-hold as killq-edges}
+use Rattle.muxer_rxq.proofs.Promises.{edges-hold as rxq-edges}
+use Rattle.readings.specs.Readings.{parts, whole, queues, readings, NoneLeftOut, ReadingsHold}
 
 pub none-left-out : NoneLeftOut
-unfolding readings readingA readingBCD readingE readingF readingH
+unfolding readings parts whole queues bytesOfA ringBCD ruleE readingF formulaH readingA readingBCD readingE readingG readingH readingI readingJ
 none-left-out = refl
 
-pub readings-hold : ReadingsHold
-unfolding readings
-readings-hold =
-    hold-append (readingA ++ readingBCD ++ readingE ++ readingF) readingH
-    (hold-append (readingA ++ readingBCD ++ readingE) readingF
-    (hold-append (readingA ++ readingBCD) readingE
-    (hold-append readingA readingBCD (packet-edges .a) (txbuf-edges .bcd))
-    (defs-edges .e))
+parts-hold : Hold parts
+unfolding parts
+parts-hold =
+    hold-append (bytesOfA ++ ringBCD ++ ruleE ++ readingF) formulaH
+    (hold-append (bytesOfA ++ ringBCD ++ ruleE) readingF
+    (hold-append (bytesOfA ++ ringBCD) ruleE (hold-append bytesOfA ringBCD (packet-edges .a) (txbuf-edges .bcd)) (defs-edges .e))
     (txbuf-edges .f))
     (defs-edges .h)
+
+whole-hold : Hold whole
+unfolding whole
+whole-hold =
+    hold-append (readingA ++ readingBCD ++ readingE ++ readingG) readingH
+    (hold-append (readingA ++ readingBCD ++ readingE) readingG
+    (hold-append (readingA ++ readingBCD) readingE (hold-append readingA readingBCD (connection-edges .a) (connection-edges .bcd)) (connection-edges .e))
+    (connection-edges .g))
+    (connection-edges .h)
+
+pub readings-hold : ReadingsHold
+unfolding readings queues
+readings-hold =
+    hold-append (parts ++ whole) (readingI ++ readingJ) (hold-append parts whole parts-hold whole-hold) (hold-append readingI readingJ (killq-edges .i) (rxq-edges .j))
