@@ -1,69 +1,192 @@
 // Runs 01's readings through the code, a line each: the letter, then what came out.
+use connection::ConnState;
+use connection::Settings;
+use connection::Timer;
+use connection::VsockConnection;
+use defs::ReadAnswer;
 use defs::StreamAnswer;
 use defs::StreamAnswers;
 use defs::limits::VSOCK_PKT_HDR_SIZE;
+use packet::Decoded;
 use packet::VsockPacketHdr;
 use packet::uapi;
 use txbuf::TxBuf;
 
-// The settings of every reading: R and T.
+// The settings of every reading: R, T, and both timeouts.
 const SIZE: u32 = 16;
 
 const THRESHOLD: u32 = 4;
+
+const TIMEOUT: u64 = 2000;
 
 fn main() {
     reading_a();
     reading_bcd();
     reading_e();
     reading_f();
+    reading_g();
     reading_h();
+    reading_k();
+    reading_l();
 }
 
-// The first receive of a guest-opened connection: its header, whole.
-fn reading_a() {
+// ---- what the readings share
+
+// A connection that the guest opened, with so much space of its own.
+fn opened(alloc: u32) -> VsockConnection {
+    let settings = Settings {
+        threshold: THRESHOLD,
+        request_timeout: TIMEOUT,
+        shutdown_timeout: TIMEOUT,
+    };
+    let opening = VsockConnection::new_peer_init(SIZE, settings, 2, 3, 1024, 5000, alloc);
+    let conn = opening.conn;
+    conn
+}
+
+// A turn to speak at time 0, with a buffer of 0 bytes or none.
+fn turn(
+    conn: VsockConnection,
+    hdr: &mut [u8],
+    present: bool,
+    answer: ReadAnswer,
+) -> VsockConnection {
+    let mut buf = [0u8; 1];
+    let got = conn.recv_pkt(hdr, present, &mut buf[..0], 0, answer, b"");
+    let next = got.conn;
+    next
+}
+
+// The same, once the first turn has confirmed it.
+fn established(alloc: u32) -> VsockConnection {
+    let mut hdr = [0u8; VSOCK_PKT_HDR_SIZE];
+    turn(opened(alloc), &mut hdr, false, ReadAnswer::WouldBlock)
+}
+
+// A packet of the guest's at time 1,000; the stream takes so many of its bytes.
+fn sent(
+    conn: VsockConnection,
+    op: u16,
+    flags: u32,
+    len: u32,
+    taken: usize,
+    storage: &mut [u8],
+) -> VsockConnection {
     let hdr = VsockPacketHdr {
-        src_cid: 2,
-        dst_cid: 3,
-        src_port: 1024,
-        dst_port: 5000,
-        len: 0,
+        src_cid: 3,
+        dst_cid: 2,
+        src_port: 5000,
+        dst_port: 1024,
+        len,
         type_: uapi::VSOCK_TYPE_STREAM,
-        op: uapi::VSOCK_OP_RESPONSE,
-        flags: 0,
-        buf_alloc: SIZE,
+        op,
+        flags,
+        buf_alloc: 100,
         fwd_cnt: 0,
     };
     let mut bytes = [0u8; VSOCK_PKT_HDR_SIZE];
     packet::encode(hdr, &mut bytes);
+    let answers = StreamAnswers {
+        first: StreamAnswer::Count(taken),
+        second: StreamAnswer::WouldBlock,
+    };
+    let mut out = [0u8; SIZE as usize];
+    let after = conn.send_pkt(
+        &bytes,
+        true,
+        b"0123456789abcdef",
+        1000,
+        storage,
+        answers,
+        &mut out,
+    );
+    let next = after.conn;
+    next
+}
+
+fn print_op(hdr: &[u8]) {
+    let Decoded::Header(said) = packet::decode(hdr) else {
+        return;
+    };
+    io::write_all(1, b"op ");
+    io::print_decimal(1, said.op as u64);
+}
+
+fn print_state(conn: VsockConnection) {
+    let state = conn.state;
+    match state {
+        ConnState::LocalInit => {
+            io::write_all(1, b"LocalInit");
+        }
+        ConnState::PeerInit => {
+            io::write_all(1, b"PeerInit");
+        }
+        ConnState::Established => {
+            io::write_all(1, b"Established");
+        }
+        ConnState::LocalClosed => {
+            io::write_all(1, b"LocalClosed");
+        }
+        ConnState::PeerClosed(_, _) => {
+            io::write_all(1, b"PeerClosed");
+        }
+        ConnState::Killed => {
+            io::write_all(1, b"Killed");
+        }
+    }
+}
+
+fn print_timer(conn: VsockConnection) {
+    let timer = conn.expiry;
+    match timer {
+        Timer::Unset => {
+            io::write_all(1, b"none");
+        }
+        Timer::At(time) => {
+            io::print_decimal(1, time);
+        }
+    }
+}
+
+// ---- the readings
+
+// The first receive of a guest-opened connection: its header, whole.
+fn reading_a() {
+    let mut hdr = [0u8; VSOCK_PKT_HDR_SIZE];
+    turn(opened(100), &mut hdr, false, ReadAnswer::WouldBlock);
     let mut digits = [0u8; 2 * VSOCK_PKT_HDR_SIZE];
-    text::hex(&bytes, &mut digits);
+    text::hex(&hdr, &mut digits);
     io::write_all(1, b"a ");
     io::write_all(1, &digits);
     io::write_all(1, b"\n");
 }
 
-// What the stream did not take of b's 10 bytes goes to an empty ring; then 10 more, or 11.
+// 10 bytes to an empty ring, of which the stream takes 4; then 10 more, or 11.
 fn reading_bcd() {
     let mut storage = [0u8; SIZE as usize];
-    let empty = TxBuf::new(SIZE);
-    let ring = empty.ring;
-    let b = pushed(b"b", ring, &mut storage, b"456789");
+    let b = sent(established(100), uapi::VSOCK_OP_RW, 0, 10, 4, &mut storage);
+    print_data(b"b ", b);
     let mut other = storage;
-    pushed(b"c", b, &mut storage, b"0123456789");
-    pushed(b"d", b, &mut other, b"0123456789a");
+    let c = sent(b, uapi::VSOCK_OP_RW, 0, 10, 0, &mut storage);
+    print_data(b"c ", c);
+    let d = sent(b, uapi::VSOCK_OP_RW, 0, 11, 0, &mut other);
+    print_data(b"d ", d);
 }
 
-fn pushed(letter: &[u8], ring: TxBuf, storage: &mut [u8], src: &[u8]) -> TxBuf {
-    let after = ring.push(storage, src);
-    let answer = after.answer;
-    let left = after.ring;
+fn print_data(letter: &[u8], conn: VsockConnection) {
+    let ring = conn.tx_buf;
+    let pending = conn.pending_rx;
     io::write_all(1, letter);
-    io::write_all(1, b" answer ");
-    io::print_decimal(1, defs::number_of(answer) as u64);
+    print_state(conn);
     io::write_all(1, b", held ");
-    io::print_decimal(1, left.used() as u64);
-    io::write_all(1, b"\n");
-    left
+    io::print_decimal(1, ring.used() as u64);
+    io::write_all(1, b", count ");
+    io::print_decimal(1, conn.fwd_cnt as u64);
+    if pending.credit_update {
+        io::write_all(1, b", update\n");
+    } else {
+        io::write_all(1, b", no update\n");
+    }
 }
 
 // Whether a credit update is due at a count minus told of 12, 13 and 17.
@@ -114,9 +237,66 @@ fn reading_f() {
     io::write_all(1, b"\n");
 }
 
+// Credit 1, a buffer of 0 bytes, a read of 0 bytes; then credit 0 and no buffer.
+fn reading_g() {
+    let mut hdr = [0u8; VSOCK_PKT_HDR_SIZE];
+    let readable = seen(established(1));
+    let closed = turn(readable, &mut hdr, true, ReadAnswer::Count(0));
+    io::write_all(1, b"g ");
+    print_state(closed);
+    let blocked = seen(established(0));
+    turn(blocked, &mut hdr, false, ReadAnswer::WouldBlock);
+    io::write_all(1, b", ");
+    print_op(&hdr);
+    io::write_all(1, b"\n");
+}
+
+// An in-event: there is data to read.
+fn seen(conn: VsockConnection) -> VsockConnection {
+    let storage = [0u8; SIZE as usize];
+    let answers = StreamAnswers {
+        first: StreamAnswer::WouldBlock,
+        second: StreamAnswer::WouldBlock,
+    };
+    let mut out = [0u8; 1];
+    let after = conn.notify(true, false, &storage, answers, &mut out);
+    let next = after.conn;
+    next
+}
+
 // The credit at alloc 10, sent 14, peer fwd 2.
 fn reading_h() {
     io::write_all(1, b"h ");
     io::print_decimal(1, defs::peer_avail_credit(10, 14, 2) as u64);
+    io::write_all(1, b"\n");
+}
+
+// SHUTDOWN 3 at 1,000 with one byte held: its timer; SHUTDOWN 1, then 2: its timer.
+fn reading_k() {
+    let mut storage = [0u8; SIZE as usize];
+    let conn = sent(established(100), uapi::VSOCK_OP_RW, 0, 1, 0, &mut storage);
+    let both = sent(conn, uapi::VSOCK_OP_SHUTDOWN, 3, 0, 0, &mut storage);
+    io::write_all(1, b"k timer ");
+    print_timer(both);
+    let half = sent(conn, uapi::VSOCK_OP_SHUTDOWN, 1, 0, 0, &mut storage);
+    let whole = sent(half, uapi::VSOCK_OP_SHUTDOWN, 2, 0, 0, &mut storage);
+    io::write_all(1, b"; in two halves ");
+    print_timer(whole);
+    io::write_all(1, b"\n");
+}
+
+// Killed in PeerInit, then two turns to speak.
+fn reading_l() {
+    let mut hdr = [0u8; VSOCK_PKT_HDR_SIZE];
+    let killed = opened(100).kill();
+    let conn = killed.conn;
+    let first = turn(conn, &mut hdr, false, ReadAnswer::WouldBlock);
+    io::write_all(1, b"l ");
+    print_op(&hdr);
+    let second = turn(first, &mut hdr, false, ReadAnswer::WouldBlock);
+    io::write_all(1, b", ");
+    print_op(&hdr);
+    io::write_all(1, b", ");
+    print_state(second);
     io::write_all(1, b"\n");
 }
