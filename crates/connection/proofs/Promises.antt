@@ -10,11 +10,14 @@ use Rattle.defs.proofs.Pins.{by-equation}
 use Rattle.packet.specs.Header.{encoded, decoded}
 use Rattle.txbuf.specs.Record.{soundRecord, soundOf, heldFrom, held, recordAnswer}
 use Rattle.txbuf.specs.Push.{runs, pushDone}
-use Rattle.connection.specs.Record.{okSettings, soundConn, soundOver, quiet, creditOf, withState, killedOf}
+use Rattle.txbuf.specs.Flush.{takenBy, overBy, endsBy, flushCount, flushOver, flushAnswer, flushDone, flushKept, flushOf}
+use Rattle.connection.specs.Record.{okSettings, soundConn, soundOver, quiet, creditOf, clockAnswer, withState, killedOf}
+use Rattle.connection.specs.Look.{hasExpiredOf}
+use Rattle.connection.specs.Notify.{seenOf, absorbed, settledOf, drainedOf, notifyAnswer, notifyDone, notifyKept, notifyOf}
 use Rattle.connection.specs.Open.{freshOf, openAnswer, peerInitOf}
 use Rattle.connection.specs.Receive.{nextStep, spokenOf, receivedOf, headerOf, recvDoor, readsOf, recvRefusal, recvDone, recvKept, recvOf}
 use Rattle.connection.specs.Send.{heardOf, movedOf, updatedOf, onData, ruleOf, goesOf, planOf, killsOf, sendRefusal, carried, sendAnswer, sendDone, sendKept, sendOf}
-use Rattle.connection.specs.Edges.{readingA, readingBCD, readingE, readingG, readingH}
+use Rattle.connection.specs.Edges.{readingA, readingBCD, readingE, readingF, readingG, readingH, readingI}
 use Rattle.connection.specs.Promises.{SendMoves, NotifyMoves, ReceiveKeeps, KillKeeps, EdgesHold, EachCallPinned}
 use Rattle.connection.proofs.MovesLaws as moves
 
@@ -31,13 +34,15 @@ pub kill-keeps : KillKeeps
 kill-keeps = moves.kill-keeps
 
 pub edges-hold : EdgesHold
-unfolding when isDone whenDone isRingSize isThreshold isTimeout isClock isPacketLength isHeaderLength doorOf lateOf lowestOf copied peerAvailCredit peerNeedsCreditUpdate encoded decoded soundRecord soundOf heldFrom held recordAnswer runs pushDone okSettings soundConn soundOver quiet creditOf withState killedOf freshOf openAnswer peerInitOf nextStep spokenOf receivedOf headerOf recvDoor readsOf recvRefusal recvDone recvKept recvOf heardOf movedOf updatedOf onData ruleOf goesOf planOf killsOf sendRefusal carried sendAnswer sendDone sendKept sendOf readingA readingBCD readingE readingG readingH
+unfolding when isDone whenDone isRingSize isThreshold isTimeout isClock isPacketLength isHeaderLength doorOf lateOf lowestOf copied peerAvailCredit peerNeedsCreditUpdate encoded decoded soundRecord soundOf heldFrom held recordAnswer runs pushDone okSettings soundConn soundOver quiet creditOf withState killedOf freshOf openAnswer peerInitOf nextStep spokenOf receivedOf headerOf recvDoor readsOf recvRefusal recvDone recvKept recvOf heardOf movedOf updatedOf onData ruleOf goesOf planOf killsOf sendRefusal carried takenBy overBy endsBy flushCount flushOver flushAnswer flushDone flushKept flushOf seenOf absorbed settledOf drainedOf notifyAnswer notifyDone notifyKept notifyOf clockAnswer hasExpiredOf sendAnswer sendDone sendKept sendOf readingA readingBCD readingE readingF readingG readingH readingI
 edges-hold = record {
   a = (refl, (refl, tt));
   bcd = (refl, (refl, (refl, (refl, (refl, (refl, tt))))));
   e = (refl, (refl, (refl, tt)));
+  f = (refl, (refl, (refl, (refl, tt))));
   g = (refl, (refl, tt));
   h = (refl, tt);
+  i = (refl, (refl, tt));
 }
 
 pub each-call-pinned : EachCallPinned

@@ -1,4 +1,4 @@
--- The readings of 01 that a connection decides (R = 16, T = 4, timeouts 2,000): a, b, c, d, e, g, h. Assumes nothing.
+-- The readings of 01 that a connection decides (R = 16, T = 4, timeouts 2,000): a to i. Assumes nothing.
 use Prim.Native.Nat.{ℕ}
 use mathlib.Core.Bool.{Bool, true, false}
 use mathlib.Core.List.{List, [], _∷_, _++_}
@@ -6,7 +6,7 @@ use lib.ListN.{replicate}
 use Rattle.defs.specs.Answer.{told}
 use Rattle.defs.specs.Reading.{Reading, _reads_}
 use Rattle.defs.specs.declared.answer.Answer.the-variants.{Done}
-use Rattle.defs.specs.declared.stream.StreamAnswer.the-variants.{Count, WouldBlock}
+use Rattle.defs.specs.declared.stream.StreamAnswer.the-variants.{Count, WouldBlock, Failed}
 use Rattle.defs.specs.declared.stream.ReadAnswer.{ReadAnswer}
 use Rattle.defs.specs.declared.stream.ReadAnswer.the-variants.{Count as ReadCount, WouldBlock as ReadWouldBlock}
 use Rattle.packet.specs.Uapi.{opRw, opCreditRequest, typeStream}
@@ -15,9 +15,13 @@ use Rattle.packet.specs.Edges.{bytesA}
 use Rattle.txbuf.specs.Record.{held}
 use Rattle.txbuf.specs.declared.record.TxBuf.{TxBuf}
 use Rattle.connection.specs.Record.{creditOf}
-use Rattle.connection.specs.Open.{freshOf, peerInitOf, Opening}
+use Rattle.connection.specs.Open.{none, freshOf, peerInitOf, Opening}
+use Rattle.connection.specs.Look.{FlagLeft, hasExpiredOf}
+use Rattle.connection.specs.Notify.{NotifyLeft, notifyOf}
 use Rattle.connection.specs.Receive.{RecvLeft, recvOf}
 use Rattle.connection.specs.Send.{SendLeft, movedOf, updatedOf, sendOf}
+use Rattle.connection.specs.declared.record.Timer.{Timer}
+use Rattle.connection.specs.declared.record.Timer.the-variants.{Unset, At}
 use Rattle.connection.specs.declared.record.VsockConnection.{VsockConnection}
 use Rattle.connection.specs.declared.state.ConnState.the-variants.{Established, LocalClosed, Killed}
 
@@ -99,24 +103,52 @@ readingG =
     ∷ (decoded (turn (reader 0) false ReadWouldBlock .hdr) .op reads opCreditRequest)
     ∷ []
 
--- h: alloc 10, sent 14, peer fwd 2
-abbrev overdrawn : VsockConnection
-overdrawn = record {
-  settings = reader 10 .settings;
+-- established, with a ring, the numbers of credit and a timer
+abbrev standing : TxBuf → ℕ → ℕ → ℕ → Timer → VsockConnection
+standing tx alloc sent forwarded timer = record {
+  settings = opening alloc .settings;
   state = Established;
   «local_cid» = 2;
   «peer_cid» = 3;
   «local_port» = 1024;
   «peer_port» = 5000;
-  «tx_buf» = ring 0;
+  «tx_buf» = tx;
   «fwd_cnt» = 0;
-  «peer_buf_alloc» = 10;
-  «peer_fwd_cnt» = 2;
-  «rx_cnt» = 14;
+  «peer_buf_alloc» = alloc;
+  «peer_fwd_cnt» = forwarded;
+  «rx_cnt» = sent;
   «last_fwd_cnt_to_peer» = 0;
-  «pending_rx» = reader 10 .«pending_rx»;
-  expiry = reader 10 .expiry;
+  «pending_rx» = none;
+  expiry = timer;
 }
 
+abbrev afterF : NotifyLeft
+afterF = notifyOf (record {
+  conn = standing (record { size = 16; head = 20; tail = 12 }) 100 0 0 Unset;
+  readable = false;
+  writable = true;
+  store = replicate 16 7;
+  answers = record { first = Count 4; second = Failed };
+  out = replicate 8 99;
+})
+
+-- f: 4 taken, then failure: 4, tail 16, not killed
+unfoldable pub readingF : List Reading
+readingF =
+    (afterF .conn .«fwd_cnt» reads 4)
+    ∷ (afterF .conn .«tx_buf» reads record { size = 16; head = 20; tail = 16 })
+    ∷ (afterF .conn .state reads Established)
+    ∷ (afterF .out reads replicate 4 7 ++ replicate 4 99)
+    ∷ []
+
+-- h: alloc 10, sent 14, peer fwd 2
 unfoldable pub readingH : List Reading
-readingH = (creditOf overdrawn reads 4294967294) ∷ []
+readingH = (creditOf (standing (ring 0) 10 14 2 Unset) reads 4294967294) ∷ []
+
+-- i: a timer of 500 has expired at 500, and not before
+abbrev expired : ℕ → FlagLeft
+expired clock = hasExpiredOf (record { conn = standing (ring 0) 100 0 0 (At 500); clock = clock })
+
+unfoldable pub readingI : List Reading
+readingI =
+    (expired 499 reads record { answer = told Done; yes = false }) ∷ (expired 500 reads record { answer = told Done; yes = true }) ∷ []

@@ -15,7 +15,7 @@ use Rattle.connection.specs.Receive.{RecvIn, RecvLeft, RecvSays}
 use Rattle.connection.specs.Send.{SendIn, SendLeft, SendSays, accepted}
 use Rattle.connection.specs.Notify.{NotifyIn, NotifyLeft, NotifySays}
 use Rattle.connection.specs.Moves.{Numbers, account, sendTaken, notifyTaken, Moved}
-use Rattle.connection.specs.Edges.{readingA, readingBCD, readingE, readingG, readingH}
+use Rattle.connection.specs.Edges.{readingA, readingBCD, readingE, readingF, readingG, readingH, readingI}
 use Rattle.connection.specs.declared.record.VsockConnection.{VsockConnection}
 
 -- a packet: what the stream took, then what is held, is what was held, then what was accepted
@@ -42,8 +42,10 @@ pub record EdgesHold : Type 0 where
   pub a : Hold readingA
   pub bcd : Hold readingBCD
   pub e : Hold readingE
+  pub f : Hold readingF
   pub g : Hold readingG
   pub h : Hold readingH
+  pub i : Hold readingI
 
 -- every public call: any two outcomes that meet its contract are identical
 pub record EachCallPinned : Type 0 where
