@@ -1,4 +1,4 @@
--- The kill queue's record (01, "The numbers of a connection", "The two queues"): the only file that knows its layout. Assumes nothing.
+-- The kill queue's record (01, "The numbers of a connection", "The two queues"): its layout, and the list that it means. Assumes nothing.
 use Prim.Native.Nat.{ℕ}
 use mathlib.Core.Path.{_≡_}
 use mathlib.Core.Bool.{Bool, true, _&&_}
