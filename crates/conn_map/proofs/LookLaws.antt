@@ -5,11 +5,11 @@ use mathlib.Core.Bool.{Bool, true, false, not}
 use borrow.Author.Tests.{not-false}
 use Rattle.defs.specs.Choice.{when}
 use Rattle.defs.specs.Answer.{isDone, whenDone}
-use Rattle.defs.specs.Ladder.{doorOf}
+use Rattle.defs.specs.Ladder.{doorOf, recordAnswer}
 use Rattle.defs.specs.declared.answer.Answer.{Answer}
 use Rattle.defs.specs.declared.answer.Answer.the-variants.{Done}
 use Rattle.defs.proofs.LadderLaws.{door-passed}
-use Rattle.conn_map.specs.Look.{recordAnswer, FlagLeft, flagOf, LenLeft, lenOf}
+use Rattle.conn_map.specs.Look.{FlagLeft, flagOf, LenLeft, lenOf}
 
 -- a record whose answer is Done is sound
 pub record-passed : (a : Answer) (sound : Bool) → a ≡ recordAnswer sound → a ≡ Done → sound ≡ true

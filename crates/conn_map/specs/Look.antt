@@ -1,14 +1,9 @@
 -- The calls that only look at a queue, the same for both queues (01, "What comes back"). Assumes nothing.
 use Prim.Native.Nat.{ℕ}
 use mathlib.Core.Path.{_≡_}
-use mathlib.Core.Bool.{Bool, false, not}
+use mathlib.Core.Bool.{Bool, false}
 use Rattle.defs.specs.Answer.{Told, told, whenDone}
-use Rattle.defs.specs.Ladder.{doorOf}
-use Rattle.defs.specs.declared.answer.Answer.{Answer}
-
--- answer 1, exactly where the record is not sound
-unfoldable pub recordAnswer : Bool → Answer
-recordAnswer sound = doorOf (not sound) false false false
+use Rattle.defs.specs.Ladder.{recordAnswer}
 
 pub record FlagLeft : Type 0 where
   pub answer : Told

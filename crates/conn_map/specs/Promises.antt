@@ -4,12 +4,13 @@ use mathlib.Core.Path.{_≡_}
 use mathlib.Core.Bool.{Bool, true}
 use mathlib.Core.List.{List}
 use lib.ListN.{length, getD}
+use Rattle.defs.specs.Ladder.{recordAnswer}
 use Rattle.defs.specs.Limits.{isSlotCount}
 use Rattle.defs.specs.Pinned.{Pinned}
 use Rattle.defs.specs.Promises.{Exactly}
 use Rattle.conn_map.specs.Key.{keyOf}
 use Rattle.conn_map.specs.Table.{usedAt, soundTable}
-use Rattle.conn_map.specs.Look.{recordAnswer, FlagLeft, FlagSays, LenLeft, LenSays}
+use Rattle.conn_map.specs.Look.{FlagLeft, FlagSays, LenLeft, LenSays}
 use Rattle.defs.specs.declared.answer.Answer.{Answer}
 use Rattle.conn_map.specs.declared.key.ConnMapKey.{ConnMapKey}
 

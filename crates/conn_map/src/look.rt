@@ -1,8 +1,9 @@
 // What a call that only looks at a queue answers, the same for both queues: 1 and a fixed zero
 // where the queue is not sound, else what was asked for.
 ghost use mathlib.Core.Path.{_≡_};
+ghost use Rattle.defs.specs.Ladder.{recordAnswer};
 ghost use Rattle.defs.specs.Answer.{told};
-ghost use Rattle.conn_map.specs.Look.{recordAnswer, FlagLeft, FlagSays, LenLeft, LenSays};
+ghost use Rattle.conn_map.specs.Look.{FlagLeft, FlagSays, LenLeft, LenSays};
 use defs::Answer;
 
 pub struct Flag {

@@ -2,8 +2,8 @@
 use Prim.Native.Nat.{ℕ, _^_, _<_, _≤_}
 use mathlib.Core.Path.{_≡_, refl, sym, ap, subst, _∙_}
 use mathlib.Core.Logic.{_⊎_, inl, inr, ⊎-elim}
-use mathlib.Core.Bool.{Bool, true, false, not, _&&_, _||_}
-use mathlib.Core.List.{List, [], _∷_, _++_, append-nil, append-assoc}
+use mathlib.Core.Bool.{Bool, true, false, not, _&&_}
+use mathlib.Core.List.{List, [], _++_, append-nil, append-assoc}
 use native.Mathlib.Omega.{arith}
 use lib.Dec.{eqb}
 use lib.ListN.{length, take, drop, length-drop, take-append-drop}
@@ -26,7 +26,7 @@ use Rattle.txbuf.proofs.FlushLaws.{count-small, flush-takes-oldest}
 use Rattle.txbuf.specs.declared.record.TxBuf.{TxBuf}
 use Rattle.connection.specs.State.{takes, isLocalInit, bothOff}
 use Rattle.connection.specs.Record.{quiet, withState, killedOf}
-use Rattle.connection.specs.Receive.{spokenOf, receivedOf, RecvIn, RecvLeft, refusalOf, recvDone, recvKept, recvOf}
+use Rattle.connection.specs.Receive.{spokenOf, receivedOf, RecvLeft, refusalOf, recvDone, recvKept, recvOf}
 use Rattle.connection.specs.Open.{OpenLeft}
 use Rattle.connection.specs.Look.{lookAnswer, killOf}
 use Rattle.connection.specs.declared.receive.Row.{Row}

@@ -1,32 +1,28 @@
 -- Laws of `notify`: what follows a flush, and the ends of the call. Assumes nothing.
 use Prim.Native.Nat.{ℕ, _≤_}
-use mathlib.Core.Path.{_≡_, refl, sym, ap, _∙_}
+use mathlib.Core.Path.{_≡_, sym, ap, _∙_}
 use mathlib.Core.Logic.{⊎-elim}
 use mathlib.Core.Bool.{Bool, true, false, not, _&&_}
 use mathlib.Core.List.{List}
 use lib.ListN.{length}
 use native.Mathlib.Omega.{arith}
-use lib.Dec.{eqb}
 use borrow.Author.Tests.{not-false}
 use Rattle.defs.specs.Choice.{when}
 use Rattle.defs.specs.Answer.{told, isDone}
 use Rattle.defs.specs.Limits.{maxRing}
-use Rattle.defs.specs.Ladder.{doorOf, lowestOf}
+use Rattle.defs.specs.Ladder.{doorOf, recordAnswer}
 use Rattle.defs.specs.declared.answer.Answer.{Answer}
 use Rattle.defs.specs.declared.answer.Answer.the-variants.{Done}
 use Rattle.defs.proofs.Basics.{never, true-or-false}
 use Rattle.defs.proofs.ChoiceLaws.{when-true, when-false}
 use Rattle.defs.proofs.AnswerLaws.{NotDone, not-done, is-done, when-done, when-not-done}
-use Rattle.defs.proofs.LadderLaws.{lowest-kept, lowest-on, door-passed}
-use Rattle.txbuf.specs.Record.{recordAnswer}
-use Rattle.txbuf.specs.Flush.{FlushIn, FlushLeft, FlushSays, flushAnswer, flushOf}
-use Rattle.txbuf.specs.declared.record.TxBuf.{TxBuf}
-use Rattle.txbuf.proofs.RecordLaws.{record-answer}
+use Rattle.defs.proofs.LadderLaws.{lowest-kept, lowest-on, door-passed, record-answer}
+use Rattle.txbuf.specs.Flush.{FlushLeft, FlushSays, flushAnswer}
 use Rattle.txbuf.proofs.FlushLaws.{flush-answer, flush-kept, count-small}
 use Rattle.connection.specs.State.{bothOff}
 use Rattle.connection.specs.Record.{soundOver, quiet, withState, marked}
 use Rattle.connection.specs.Send.{failed, updatedOf}
-use Rattle.connection.specs.Notify.{seenOf, absorbed, settledOf, drainedOf, NotifyIn, NotifyLeft, due, flushIn, flushed, notifyAnswer, notifyDone, notifyKept, notifyOf}
+use Rattle.connection.specs.Notify.{seenOf, absorbed, settledOf, drainedOf, NotifyIn, NotifyLeft, due, flushIn, notifyAnswer, notifyDone, notifyKept, notifyOf}
 use Rattle.connection.specs.declared.record.PendingRxSet.{PendingRxSet}
 use Rattle.connection.specs.declared.record.VsockConnection.{VsockConnection}
 use Rattle.connection.proofs.RecordLaws.{sound-over-says}

@@ -3,15 +3,15 @@ use mathlib.Core.Path.{refl}
 use Rattle.defs.specs.Choice.{when}
 use Rattle.defs.specs.Answer.{isDone, whenDone}
 use Rattle.defs.specs.Limits.{isRingSize, isThreshold, isTimeout, isClock, isPacketLength, isHeaderLength}
-use Rattle.defs.specs.Ladder.{doorOf, lateOf, lowestOf}
+use Rattle.defs.specs.Ladder.{doorOf, lateOf, lowestOf, recordAnswer, clockAnswer}
 use Rattle.defs.specs.Copying.{copied}
 use Rattle.defs.specs.Credit.{peerAvailCredit, peerNeedsCreditUpdate}
 use Rattle.defs.proofs.Pins.{by-equation}
 use Rattle.packet.specs.Header.{encoded, decoded}
-use Rattle.txbuf.specs.Record.{soundRecord, soundOf, heldFrom, held, recordAnswer}
+use Rattle.txbuf.specs.Record.{soundRecord, soundOf, heldFrom, held}
 use Rattle.txbuf.specs.Push.{runs, pushDone}
 use Rattle.txbuf.specs.Flush.{takenBy, overBy, endsBy, flushCount, flushOver, flushAnswer, flushDone, flushKept, flushOf}
-use Rattle.connection.specs.Record.{okSettings, soundConn, soundOver, quiet, creditOf, clockAnswer, withState, killedOf}
+use Rattle.connection.specs.Record.{okSettings, soundConn, soundOver, quiet, creditOf, withState, killedOf}
 use Rattle.connection.specs.Look.{hasExpiredOf}
 use Rattle.connection.specs.Notify.{seenOf, absorbed, settledOf, drainedOf, notifyAnswer, notifyDone, notifyKept, notifyOf}
 use Rattle.connection.specs.Open.{freshOf, openAnswer, peerInitOf}

@@ -1,5 +1,5 @@
 -- Laws of `recv_pkt`: what a passed refusal says, how much a step reads, and both ends of the call. Assumes nothing.
-use Prim.Native.Nat.{ℕ, _≤_, zero-le, min}
+use Prim.Native.Nat.{ℕ, _≤_, zero-le}
 use mathlib.Core.Path.{_≡_, refl, sym, ap, _∙_}
 use mathlib.Core.Logic.{⊎-elim}
 use mathlib.Core.Bool.{Bool, true, false, not, _&&_, _||_}
@@ -29,9 +29,9 @@ use Rattle.packet.specs.declared.hdr.VsockPacketHdr.{VsockPacketHdr}
 use Rattle.packet.proofs.HeaderLaws.{encode-done}
 use Rattle.connection.specs.State.{gives}
 use Rattle.connection.specs.Record.{soundConn, creditOf}
-use Rattle.connection.specs.Receive.{isEnd, readStep, dataStep, updateStep, rxStep, nextStep, rowOf, receivedOf, headerOf, Receivable, RecvIn, RecvLeft, recvDoor, readsOf, askedOf, recvRefusal, refusalOf, saidBy, recvDone, recvKept, recvOf}
+use Rattle.connection.specs.Receive.{isEnd, readStep, dataStep, updateStep, nextStep, rowOf, receivedOf, headerOf, Receivable, RecvIn, RecvLeft, recvDoor, readsOf, askedOf, recvRefusal, refusalOf, saidBy, recvDone, recvKept, recvOf}
 use Rattle.connection.specs.declared.record.VsockConnection.{VsockConnection}
-use Rattle.connection.specs.declared.receive.RxStep.the-variants.{Rst, Response, Request, Refuse, AskCredit, NoBuffer, Data, Close, Fail, Update, Nothing}
+use Rattle.connection.specs.declared.receive.RxStep.the-variants.{Rst, Response, Request, Data, Close, Update, Nothing}
 use Rattle.connection.specs.declared.receive.Row.{Row}
 use Rattle.connection.proofs.RecordLaws.{timeouts}
 

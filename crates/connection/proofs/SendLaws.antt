@@ -23,7 +23,6 @@ use Rattle.defs.proofs.LadderLaws.{lowest-passed, door-passed, late-passed}
 use Rattle.defs.proofs.LimitLaws.{clock-within, packet-length}
 use Rattle.defs.proofs.CopyLaws.{copied-fits}
 use Rattle.packet.specs.Uapi.{opRw}
-use Rattle.packet.specs.Header.{decoded}
 use Rattle.packet.specs.declared.hdr.VsockPacketHdr.{VsockPacketHdr}
 use Rattle.txbuf.specs.Record.{usedOf}
 use Rattle.txbuf.specs.Push.{PushIn, PushLeft, PushSays, pushAnswer, pushAnswerOf, pushDone, pushOf}

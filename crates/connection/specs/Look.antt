@@ -4,11 +4,11 @@ use Prim.Native.Nat.{ℕ}
 use mathlib.Core.Path.{_≡_}
 use mathlib.Core.Bool.{Bool, false, not, _&&_, _||_}
 use lib.Dec.{ltb, leb, eqb}
+use Rattle.defs.specs.Ladder.{recordAnswer, clockAnswer}
 use Rattle.defs.specs.Answer.{Told, told, whenDone}
 use Rattle.defs.specs.declared.answer.Answer.{Answer}
-use Rattle.txbuf.specs.Record.{recordAnswer}
 use Rattle.connection.specs.State.{polls}
-use Rattle.connection.specs.Record.{soundConn, quiet, creditOf, clockAnswer, killedOf}
+use Rattle.connection.specs.Record.{soundConn, quiet, creditOf, killedOf}
 use Rattle.connection.specs.Open.{OpenLeft}
 use Rattle.connection.specs.declared.record.PendingRxSet.{PendingRxSet}
 use Rattle.connection.specs.declared.record.Timer.{Timer}

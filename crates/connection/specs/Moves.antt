@@ -2,7 +2,7 @@
 use Prim.Native.Nat.{ℕ, _^_, _<_}
 use mathlib.Core.Path.{_≡_}
 use mathlib.Core.List.{List, _++_}
-use lib.ListN.{length, take}
+use lib.ListN.{length}
 use Rattle.defs.specs.Answer.{whenDone}
 use Rattle.defs.specs.Choice.{when}
 use Rattle.defs.specs.Wrapping.{wadd}

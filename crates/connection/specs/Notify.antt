@@ -7,11 +7,10 @@ use lib.ListN.{length}
 use lib.Dec.{eqb}
 use Rattle.defs.specs.Choice.{when}
 use Rattle.defs.specs.Answer.{Told, told, whenDone}
-use Rattle.defs.specs.Ladder.{lowestOf}
+use Rattle.defs.specs.Ladder.{lowestOf, recordAnswer}
 use Rattle.defs.specs.declared.answer.Answer.{Answer}
 use Rattle.defs.specs.declared.answer.Answer.the-variants.{Done}
 use Rattle.defs.specs.declared.stream.StreamAnswers.{StreamAnswers}
-use Rattle.txbuf.specs.Record.{recordAnswer}
 use Rattle.txbuf.specs.Flush.{FlushIn, FlushLeft, flushAnswer, flushOf}
 use Rattle.txbuf.specs.declared.record.TxBuf.{TxBuf}
 use Rattle.connection.specs.State.{bothOff}

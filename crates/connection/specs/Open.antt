@@ -2,10 +2,10 @@
 use Prim.Native.Nat.{ℕ}
 use mathlib.Core.Path.{_≡_}
 use mathlib.Core.Bool.{true, false, _&&_}
+use Rattle.defs.specs.Ladder.{recordAnswer}
 use Rattle.defs.specs.Answer.{Told, told, whenDone}
 use Rattle.defs.specs.Limits.{isRingSize}
 use Rattle.defs.specs.declared.answer.Answer.{Answer}
-use Rattle.txbuf.specs.Record.{recordAnswer}
 use Rattle.connection.specs.Record.{okSettings}
 use Rattle.connection.specs.declared.record.Settings.{Settings}
 use Rattle.connection.specs.declared.record.PendingRxSet.{PendingRxSet}

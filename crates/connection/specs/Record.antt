@@ -1,11 +1,9 @@
 -- The record of a connection (01, "The numbers of a connection"): what is sound, and the numbers that rules go by. Assumes nothing.
 use Prim.Native.Nat.{ℕ}
-use mathlib.Core.Bool.{Bool, true, false, not, _&&_, _||_}
+use mathlib.Core.Bool.{Bool, true, false, _&&_, _||_}
 use lib.Dec.{eqb}
-use Rattle.defs.specs.Limits.{isThreshold, isTimeout, isClock}
-use Rattle.defs.specs.Ladder.{doorOf}
+use Rattle.defs.specs.Limits.{isThreshold, isTimeout}
 use Rattle.defs.specs.Credit.{peerAvailCredit}
-use Rattle.defs.specs.declared.answer.Answer.{Answer}
 use Rattle.txbuf.specs.Record.{usedOf, soundRecord, soundOf}
 use Rattle.connection.specs.declared.record.Settings.{Settings}
 use Rattle.connection.specs.declared.record.PendingRxSet.{PendingRxSet}
@@ -33,10 +31,6 @@ quiet c = eqb (usedOf (c .«tx_buf»)) 0
 -- the guest's credit
 unfoldable pub creditOf : VsockConnection → ℕ
 creditOf c = peerAvailCredit (c .«peer_buf_alloc») (c .«rx_cnt») (c .«peer_fwd_cnt»)
-
--- answers 1 and 3: the door of a call that tests its record and its clock
-unfoldable pub clockAnswer : Bool → ℕ → Answer
-clockAnswer sound ms = doorOf (not sound) false (not (isClock ms)) false
 
 -- the record with another state, timer and set of indications
 unfoldable pub withState : VsockConnection → ConnState → Timer → PendingRxSet → VsockConnection

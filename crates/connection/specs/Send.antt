@@ -21,7 +21,7 @@ use Rattle.packet.specs.Uapi.{opResponse, opShutdown, opRw, opCreditRequest, fl
 use Rattle.packet.specs.Header.{decoded}
 use Rattle.packet.specs.declared.hdr.VsockPacketHdr.{VsockPacketHdr}
 use Rattle.txbuf.specs.Record.{usedOf}
-use Rattle.txbuf.specs.Push.{PushIn, PushLeft, pushAnswer, pushDone}
+use Rattle.txbuf.specs.Push.{PushLeft, pushAnswer, pushDone}
 use Rattle.txbuf.specs.declared.record.TxBuf.{TxBuf}
 use Rattle.connection.specs.State.{takes, asks, isLocalInit, isEstablished, shutBy, bothOff}
 use Rattle.connection.specs.Record.{soundOver, quiet, withState, marked, killedOf}

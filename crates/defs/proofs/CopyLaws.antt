@@ -1,12 +1,12 @@
 -- Laws of a copy: what it leaves, for callers that know the lengths. Assumes nothing.
 use Prim.Native.Nat.{ℕ, _+_, _-_, _<_, _≤_, min}
-use mathlib.Core.Path.{_≡_, refl, sym, ap, _∙_}
+use mathlib.Core.Path.{_≡_, sym, ap, _∙_}
 use mathlib.Core.Logic.{⊎-elim}
-use mathlib.Core.List.{List, [], _++_, append-nil, append-assoc}
+use mathlib.Core.List.{List, _++_, append-nil, append-assoc}
 use native.Mathlib.Omega.{arith}
 use native.Mathlib.Numerals.{add-one}
 use lib.ListN.{length, take, drop, set, getD, drop-of-length-le, length-append, length-take, length-drop}
-use lib.Seq.{take-all, take-suc, take-suc-set, take-add, take-at, length-take-le}
+use lib.Seq.{take-all, take-suc, take-suc-set, take-add, take-at}
 use Rattle.defs.specs.Copying.{copied}
 use Rattle.defs.proofs.Basics.{lt-or-ge}
 

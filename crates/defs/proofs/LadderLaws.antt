@@ -2,14 +2,15 @@
 use Prim.Native.Nat.{ℕ, zero, suc, _<_, _≤_}
 use mathlib.Core.Path.{_≡_, refl, sym, ap, subst, _∙_}
 use mathlib.Core.Logic.{⊎-elim}
-use mathlib.Core.Bool.{Bool, true, false}
+use mathlib.Core.Bool.{Bool, true, false, not}
 use mathlib.Core.List.{List, [], _∷_}
 use native.Mathlib.Omega.{arith}
 use native.Mathlib.Nat.{not-suc-le-zero, le-of-suc-le-suc}
 use lib.ListN.{getD}
 use Rattle.defs.specs.Choice.{when}
 use Rattle.defs.specs.Answer.{told, isDone, whenDone}
-use Rattle.defs.specs.Ladder.{doorOf, lateOf, lowestOf}
+use Rattle.defs.specs.Ladder.{doorOf, lateOf, lowestOf, recordAnswer, clockAnswer}
+use Rattle.defs.specs.Limits.{isClock}
 use Rattle.defs.specs.Promises.{LowestRow, LowestNumber}
 use Rattle.defs.specs.declared.answer.Answer.{Answer}
 use Rattle.defs.specs.declared.answer.Answer.the-variants.{Done}
@@ -124,3 +125,13 @@ unfolding lateOf when
 late-passed true n e = refused _ e (omega arith)
 late-passed false true e = refused _ e (omega arith)
 late-passed false false e = record { answer-ok = refl; room-ok = refl }
+
+-- the answer of a call that tests nothing but its record
+pub record-answer : (a : Answer) (t s : Bool) → a ≡ doorOf (not t) false false false → t ≡ s → a ≡ recordAnswer s
+unfolding recordAnswer
+record-answer a t s e f = e ∙ ap (λ (x : Bool). doorOf (not x) false false false) f
+
+-- the answer of a call that tests its record and its clock
+pub clock-answer : (a : Answer) (t s u : Bool) (ms : ℕ) → a ≡ doorOf (not t) false (not u) false → t ≡ s → u ≡ isClock ms → a ≡ clockAnswer s ms
+unfolding clockAnswer
+clock-answer a t s u ms e f g = e ∙ ap (λ (x : Bool). doorOf (not x) false (not u) false) f ∙ ap (λ (x : Bool). doorOf (not s) false (not x) false) g

@@ -6,6 +6,7 @@ use mathlib.Core.List.{List, [], _∷_, _++_}
 use native.Mathlib.Omega.{arith}
 use lib.ListN.{length, getD, take, drop, set, replicate, length-take}
 use lib.Seq.{take-append-seam, drop-append-seam}
+use Rattle.defs.specs.Ladder.{clockAnswer}
 use Rattle.defs.specs.Answer.{Told, told}
 use Rattle.defs.specs.Limits.{maxKillq, isKillqLimit}
 use Rattle.defs.specs.declared.answer.Answer.{Answer}
@@ -19,7 +20,6 @@ use Rattle.muxer_killq.proofs.PopLaws.{answer-passed}
 use Rattle.conn_map.proofs.PlacesLaws.{Filled, Made, filled-start, filled-skip, filled-end, filled-full, filled-room, filled-take}
 use Rattle.muxer_killq.specs.Item.{zeroItem}
 use Rattle.muxer_killq.specs.Push.{itemAt}
-use Rattle.muxer_killq.specs.Pop.{popAnswer}
 use Rattle.muxer_killq.specs.Queue.{pack, QueuedLeft}
 use Rattle.conn_map.specs.Places.{padded}
 use Rattle.muxer_killq.specs.Sort.{sortByTime, sorted}
@@ -98,7 +98,7 @@ ready i a e d =
     let s = sound-means-distinct (i .ports) (i .used) (length (i .times)) .0 (p .1) in
     record { most = limit-most (i .limit) (p .0); used-long = s .1; times-long = s .2 }
 
-pub build-answer : (i : BuildIn) (a : Answer) (l s : Bool) → a ≡ popAnswer (l && s) (i .clock) → l ≡ isKillqLimit (i .limit)
+pub build-answer : (i : BuildIn) (a : Answer) (l s : Bool) → a ≡ clockAnswer (l && s) (i .clock) → l ≡ isKillqLimit (i .limit)
     → s ≡ soundTable (i .ports) (i .used) (length (i .times)) → a ≡ buildAnswer i
 unfolding buildAnswer
 build-answer i a l s e f g = rw (← f, ← g) e

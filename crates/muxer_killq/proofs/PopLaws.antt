@@ -9,6 +9,7 @@ use native.Mathlib.Nat.{eq-zero-or-pos}
 use borrow.Author.Tests.{not-false, ltb-true, lt-ltb}
 use lib.Dec.{ltb}
 use lib.ListN.{length, getD, take, drop, set}
+use Rattle.defs.specs.Ladder.{clockAnswer}
 use Rattle.defs.specs.Answer.{told, isDone}
 use Rattle.defs.specs.Limits.{maxKillq}
 use Rattle.defs.specs.declared.answer.Answer.{Answer}
@@ -21,17 +22,17 @@ use Rattle.conn_map.specs.declared.key.ConnMapKey.{ConnMapKey}
 use Rattle.conn_map.proofs.PlacesLaws.{front-first, rest-counted, moved-up}
 use Rattle.muxer_killq.specs.Item.{zeroItem}
 use Rattle.muxer_killq.specs.Queue.{soundQ, items, pack}
-use Rattle.muxer_killq.specs.Pop.{noKey, popAnswer, PopLeft, popList, popOf, movedUp}
+use Rattle.muxer_killq.specs.Pop.{noKey, PopLeft, popList, popOf, movedUp}
 use Rattle.muxer_killq.specs.declared.item.MuxerKillQItem.{MuxerKillQItem}
 use Rattle.muxer_killq.specs.declared.queue.MuxerKillQ.{MuxerKillQ}
 use Rattle.muxer_killq.proofs.QueueLaws.{Sound, sound-says, packs, sound-packed}
 
 -- past the refusal
-pub answer-passed : (a : Answer) (sound : Bool) (clock : ℕ) → a ≡ popAnswer sound clock → a ≡ Done → sound ≡ true
-unfolding popAnswer
+pub answer-passed : (a : Answer) (sound : Bool) (clock : ℕ) → a ≡ clockAnswer sound clock → a ≡ Done → sound ≡ true
+unfolding clockAnswer
 answer-passed a sound clock e d = not-false sound (door-passed _ _ _ _ (sym e ∙ d) .record-ok)
 
-module _ (q : MuxerKillQ) (clock : ℕ) (a : Answer) (e : a ≡ popAnswer (soundQ q) clock) where
+module _ (q : MuxerKillQ) (clock : ℕ) (a : Answer) (e : a ≡ clockAnswer (soundQ q) clock) where
   pub pop-kept : (z : ConnMapKey) → z ≡ noKey → NotDone a → _≡_ {A = PopLeft} (record { answer = told a; found = false; key = z; queue = q }) (popOf (record { queue = q; clock = clock }))
   unfolding popOf
   pop-kept z w k = rw (w, e) (sym (when-not-done _ _ _ (ap isDone (sym e) ∙ not-done a k)))

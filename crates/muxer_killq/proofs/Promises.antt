@@ -3,12 +3,12 @@ use mathlib.Core.Path.{refl}
 use Rattle.defs.specs.Choice.{when}
 use Rattle.defs.specs.Answer.{isDone, whenDone}
 use Rattle.defs.specs.Limits.{isKillqLimit, isClock}
-use Rattle.defs.specs.Ladder.{doorOf}
+use Rattle.defs.specs.Ladder.{doorOf, clockAnswer}
 use Rattle.defs.proofs.Pins.{by-equation}
 use Rattle.conn_map.specs.Places.{all}
 use Rattle.muxer_killq.specs.Item.{zeroItem, isZero}
 use Rattle.muxer_killq.specs.Queue.{soundQ}
-use Rattle.muxer_killq.specs.Pop.{popAnswer, popList, popOf}
+use Rattle.muxer_killq.specs.Pop.{popList, popOf}
 use Rattle.muxer_killq.specs.Edges.{readingI}
 use Rattle.muxer_killq.specs.Promises.{QueueIsItsList, EverySortIsStable, EdgesHold, EachCallPinned}
 use Rattle.muxer_killq.proofs.QueueLaws as queues
@@ -21,7 +21,7 @@ pub every-sort-is-stable : EverySortIsStable
 every-sort-is-stable = sorts.every-sort-is-stable
 
 pub edges-hold : EdgesHold
-unfolding when isDone whenDone isKillqLimit isClock doorOf all isZero soundQ popAnswer popList popOf readingI
+unfolding when isDone whenDone isKillqLimit isClock doorOf all isZero soundQ clockAnswer popList popOf readingI
 edges-hold = record { i = (refl, (refl, tt)) }
 
 pub each-call-pinned : EachCallPinned

@@ -5,13 +5,13 @@ use mathlib.Core.Bool.{Bool, true, not, _&&_}
 use mathlib.Core.List.{List, []}
 use lib.Dec.{leb, ltb, eqb}
 use lib.ListN.{length, take}
+use Rattle.defs.specs.Ladder.{clockAnswer}
 use Rattle.defs.specs.Answer.{told, whenDone}
 use Rattle.defs.specs.Limits.{isKillqLimit}
 use Rattle.defs.specs.declared.answer.Answer.{Answer}
 use Rattle.conn_map.specs.Table.{Slot, slotsOf, gathered, soundTable}
 use Rattle.muxer_killq.specs.Queue.{pack, QueuedLeft}
 use Rattle.muxer_killq.specs.Push.{itemAt}
-use Rattle.muxer_killq.specs.Pop.{popAnswer}
 use Rattle.muxer_killq.specs.Sort.{sortByTime}
 use Rattle.muxer_killq.specs.declared.item.MuxerKillQItem.{MuxerKillQItem}
 use Rattle.muxer_killq.specs.declared.queue.MuxerKillQ.{MuxerKillQ}
@@ -40,7 +40,7 @@ pub record BuildIn : Type 0 where
 
 -- 01's table: 1 where the limit or the table is not sound, then 3
 unfoldable pub buildAnswer : BuildIn → Answer
-buildAnswer i = popAnswer (isKillqLimit (i .limit) && soundTable (i .ports) (i .used) (length (i .times))) (i .clock)
+buildAnswer i = clockAnswer (isKillqLimit (i .limit) && soundTable (i .ports) (i .used) (length (i .times))) (i .clock)
 
 -- a refused build is an empty, synced queue of limit 0
 unfoldable pub buildOf : BuildIn → QueuedLeft

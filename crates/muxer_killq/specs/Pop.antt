@@ -1,14 +1,13 @@
 -- `pop` (01, "The two queues"). Assumes nothing.
 use Prim.Native.Nat.{ℕ, _-_}
 use mathlib.Core.Path.{_≡_}
-use mathlib.Core.Bool.{Bool, true, false, not}
+use mathlib.Core.Bool.{Bool, true, false}
 use mathlib.Core.List.{List, [], _∷_, _++_}
 use lib.Dec.{ltb}
 use lib.ListN.{take, drop}
 use Rattle.defs.specs.Choice.{when}
 use Rattle.defs.specs.Answer.{Told, told, whenDone}
-use Rattle.defs.specs.Limits.{isClock}
-use Rattle.defs.specs.Ladder.{doorOf}
+use Rattle.defs.specs.Ladder.{clockAnswer}
 use Rattle.defs.specs.declared.answer.Answer.{Answer}
 use Rattle.defs.specs.declared.answer.Answer.the-variants.{Done}
 use Rattle.conn_map.specs.declared.key.ConnMapKey.{ConnMapKey}
@@ -26,10 +25,6 @@ pub record PopLeft : Type 0 where
   pub key : ConnMapKey
   pub queue : MuxerKillQ
 
--- 01's table: 1, then 3
-unfoldable pub popAnswer : Bool → ℕ → Answer
-popAnswer sound clock = doorOf (not sound) false (not (isClock clock)) false
-
 abbrev pub noKey : ConnMapKey
 noKey = record { «local_port» = 0; «peer_port» = 0 }
 
@@ -45,7 +40,7 @@ popList clock (x ∷ l) limit synced =
     (none Done (pack (x ∷ l) limit synced))
 
 abbrev pub popAnswerOf : PopIn → Answer
-popAnswerOf i = popAnswer (soundQ (i .queue)) (i .clock)
+popAnswerOf i = clockAnswer (soundQ (i .queue)) (i .clock)
 
 -- a refusal changes nothing
 unfoldable pub popOf : PopIn → PopLeft

@@ -5,6 +5,7 @@ use mathlib.Core.Bool.{Bool, true}
 use mathlib.Core.List.{List, [], _∷_}
 use lib.Dec.{eqb}
 use lib.ListN.{length}
+use Rattle.defs.specs.Ladder.{clockAnswer}
 use Rattle.defs.specs.Limits.{maxKillq, isKillqLimit}
 use Rattle.defs.specs.Pinned.{Pinned}
 use Rattle.defs.specs.Reading.{Hold}
@@ -14,7 +15,7 @@ use Rattle.conn_map.specs.Look.{FlagLeft, FlagSays}
 use Rattle.muxer_killq.specs.Item.{zeroItem, isZero, isAlike}
 use Rattle.muxer_killq.specs.Queue.{soundQ, items, pack, QueuedLeft, NewSays}
 use Rattle.muxer_killq.specs.Push.{PushIn, PushSays}
-use Rattle.muxer_killq.specs.Pop.{popAnswer, PopIn, PopLeft, PopSays}
+use Rattle.muxer_killq.specs.Pop.{PopIn, PopLeft, PopSays}
 use Rattle.muxer_killq.specs.Sort.{sortByTime}
 use Rattle.muxer_killq.specs.Build.{BuildIn, BuildSays}
 use Rattle.muxer_killq.specs.Edges.{readingI}
@@ -63,4 +64,4 @@ pub record EachCallPinned : Type 0 where
   pub zero-item : Pinned Unit MuxerKillQItem (λ i r. r ≡ zeroItem)
   pub is-zero : Pinned MuxerKillQItem Bool (λ it r. r ≡ isZero it)
   pub empty : Pinned ℕ MuxerKillQ (λ limit r. r ≡ pack [] limit true)
-  pub pop-answer : Pinned (Bool × ℕ) Answer (λ i r. r ≡ popAnswer (i .0) (i .1))
+  pub pop-answer : Pinned (Bool × ℕ) Answer (λ i r. r ≡ clockAnswer (i .0) (i .1))

@@ -5,10 +5,10 @@ use mathlib.Core.Bool.{Bool, false, _&&_}
 use mathlib.Core.List.{List, [], _∷_, _++_}
 use lib.Dec.{ltb}
 use lib.ListN.{length}
+use Rattle.defs.specs.Ladder.{recordAnswer}
 use Rattle.defs.specs.Choice.{when}
 use Rattle.defs.specs.Answer.{told, whenDone}
 use Rattle.defs.specs.declared.answer.Answer.the-variants.{Done, NotQueued}
-use Rattle.conn_map.specs.Look.{recordAnswer}
 use Rattle.conn_map.specs.declared.key.ConnMapKey.{ConnMapKey}
 use Rattle.muxer_killq.specs.Queue.{soundQ, items, pack, QueuedLeft}
 use Rattle.muxer_killq.specs.declared.item.MuxerKillQItem.{MuxerKillQItem}

@@ -5,10 +5,10 @@ use mathlib.Core.Bool.{Bool, true, _&&_}
 use mathlib.Core.List.{List, []}
 use lib.Dec.{leb}
 use lib.ListN.{length, take, drop}
+use Rattle.defs.specs.Ladder.{recordAnswer}
 use Rattle.defs.specs.Answer.{Told, told, whenDone}
 use Rattle.defs.specs.Limits.{maxKillq, isKillqLimit}
 use Rattle.conn_map.specs.Places.{padded, all}
-use Rattle.conn_map.specs.Look.{recordAnswer}
 use Rattle.muxer_killq.specs.Item.{zeroItem, isZero}
 use Rattle.muxer_killq.specs.declared.item.MuxerKillQItem.{MuxerKillQItem}
 use Rattle.muxer_killq.specs.declared.queue.MuxerKillQ.{MuxerKillQ}

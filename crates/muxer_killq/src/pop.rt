@@ -1,9 +1,10 @@
 // Popping: the front item, once its time has passed.
 ghost use mathlib.Core.Path.{_≡_};
 ghost use Prim.Native.Nat.{_<_, _≤_};
+ghost use Rattle.defs.specs.Ladder.{clockAnswer};
 ghost use Rattle.defs.specs.Answer.{told};
 ghost use Rattle.defs.specs.Limits.{maxKillq};
-ghost use Rattle.muxer_killq.specs.Pop.{movedUp, popAnswer, noKey, PopIn, PopLeft, PopSays};
+ghost use Rattle.muxer_killq.specs.Pop.{movedUp, noKey, PopIn, PopLeft, PopSays};
 use crate::item::zero_item;
 use crate::queue::MuxerKillQ;
 use conn_map::ConnMapKey;
@@ -61,7 +62,7 @@ impl MuxerKillQ {
 }
 
 pub fn pop_answer(sound: bool, clock: u64) -> Answer
-    ensures { λ r. ⌜ r ≡ popAnswer sound clock ⌝ }
+    ensures { λ r. ⌜ r ≡ clockAnswer sound clock ⌝ }
 {
     defs::door(!sound, false, !limits::is_clock(clock), false)
 }

@@ -4,6 +4,7 @@ use mathlib.Core.Path.{_≡_, ap, _∙_}
 use mathlib.Core.Bool.{Bool, true, false, _&&_}
 use mathlib.Core.List.{List, [], _∷_}
 use lib.ListN.{length, getD, take, set}
+use Rattle.defs.specs.Ladder.{recordAnswer}
 use Rattle.defs.specs.Answer.{Told, told}
 use Rattle.defs.specs.Limits.{maxRxq, isRxqLimit}
 use Rattle.defs.specs.declared.answer.Answer.{Answer}
@@ -12,7 +13,6 @@ use Rattle.defs.proofs.Basics.{both}
 use Rattle.defs.proofs.AnswerLaws.{NotDone, outcome-kept, outcome-done}
 use Rattle.conn_map.specs.Key.{keyOf}
 use Rattle.conn_map.specs.Table.{Slot, usedAt, slotsOf, soundTable}
-use Rattle.conn_map.specs.Look.{recordAnswer}
 use Rattle.conn_map.proofs.TableLaws.{rest, rest-all, rest-yes, rest-no, rest-end, sound-means-distinct}
 use Rattle.conn_map.proofs.LookLaws.{record-passed}
 use Rattle.conn_map.proofs.PlacesLaws.{Filled, Made, filled-start, filled-skip, filled-end, filled-full, filled-room, filled-take}

@@ -7,12 +7,12 @@ use mathlib.Core.List.{List, [], _∷_}
 use native.Mathlib.Omega.{arith}
 use native.Mathlib.Nat.{eq-zero-or-pos}
 use lib.ListN.{length, getD, take, drop, set}
+use Rattle.defs.specs.Ladder.{recordAnswer}
 use Rattle.defs.specs.Answer.{told, isDone}
 use Rattle.defs.specs.Limits.{maxRxq}
 use Rattle.defs.specs.declared.answer.Answer.{Answer}
 use Rattle.defs.specs.declared.answer.Answer.the-variants.{Done}
 use Rattle.defs.proofs.AnswerLaws.{NotDone, not-done, when-done, when-not-done}
-use Rattle.conn_map.specs.Look.{recordAnswer}
 use Rattle.conn_map.proofs.LookLaws.{record-passed}
 use Rattle.conn_map.proofs.PlacesLaws.{front-first, rest-counted, moved-up}
 use Rattle.muxer_rxq.specs.Queue.{zeroItem, soundQ, items, pack}

@@ -3,10 +3,9 @@ use mathlib.Core.Path.{refl}
 use Rattle.defs.specs.Choice.{when}
 use Rattle.defs.specs.Answer.{isDone, whenDone}
 use Rattle.defs.specs.Limits.{isRxqLimit}
-use Rattle.defs.specs.Ladder.{doorOf}
+use Rattle.defs.specs.Ladder.{doorOf, recordAnswer}
 use Rattle.defs.proofs.Pins.{by-equation}
 use Rattle.conn_map.specs.Places.{all}
-use Rattle.conn_map.specs.Look.{recordAnswer}
 use Rattle.muxer_rxq.specs.Queue.{zeroItem, isZero, soundQ}
 use Rattle.muxer_rxq.specs.Push.{lastConn, pushList, pushOf}
 use Rattle.muxer_rxq.specs.Pop.{popList, popOf}

@@ -10,6 +10,7 @@ use borrow.Author.Tests.{ne-eqb, eq-eqb, eqb-false, ltb-true}
 use lib.Dec.{eqb, ltb}
 use lib.ListN.{length, getD, take, set, length-append, length-set}
 use lib.Seq.{take-suc, length-take-le}
+use Rattle.defs.specs.Ladder.{recordAnswer}
 use Rattle.defs.specs.Choice.{when}
 use Rattle.defs.specs.Answer.{told, isDone}
 use Rattle.defs.specs.Limits.{maxRxq}
@@ -18,7 +19,6 @@ use Rattle.defs.specs.declared.answer.Answer.the-variants.{Done, NotQueued}
 use Rattle.defs.proofs.Basics.{both, true-or-false}
 use Rattle.defs.proofs.ChoiceLaws.{when-true, when-false}
 use Rattle.defs.proofs.AnswerLaws.{NotDone, not-done, when-done, when-not-done}
-use Rattle.conn_map.specs.Look.{recordAnswer}
 use Rattle.conn_map.specs.Places.{padded}
 use Rattle.conn_map.proofs.LookLaws.{record-passed}
 use Rattle.conn_map.proofs.PlacesLaws.{places-append, places-set}

@@ -5,11 +5,11 @@ use mathlib.Core.Bool.{Bool, true, false, not, _&&_}
 use mathlib.Core.List.{List, []}
 use lib.Dec.{leb, eqb}
 use lib.ListN.{length, take}
+use Rattle.defs.specs.Ladder.{recordAnswer}
 use Rattle.defs.specs.Answer.{told, whenDone}
 use Rattle.defs.specs.Limits.{isRxqLimit}
 use Rattle.defs.specs.declared.answer.Answer.{Answer}
 use Rattle.conn_map.specs.Table.{Slot, slotsOf, gathered, soundTable}
-use Rattle.conn_map.specs.Look.{recordAnswer}
 use Rattle.conn_map.specs.declared.key.ConnMapKey.{ConnMapKey}
 use Rattle.muxer_rxq.specs.Queue.{pack, QueuedLeft}
 use Rattle.muxer_rxq.specs.declared.queue.MuxerRx.{MuxerRx}

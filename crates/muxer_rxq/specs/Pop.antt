@@ -4,9 +4,9 @@ use mathlib.Core.Path.{_≡_}
 use mathlib.Core.Bool.{Bool, true, false}
 use mathlib.Core.List.{List, [], _∷_, _++_}
 use lib.ListN.{take, drop}
+use Rattle.defs.specs.Ladder.{recordAnswer}
 use Rattle.defs.specs.Answer.{Told, told, whenDone}
 use Rattle.defs.specs.declared.answer.Answer.the-variants.{Done}
-use Rattle.conn_map.specs.Look.{recordAnswer}
 use Rattle.muxer_rxq.specs.Queue.{zeroItem, soundQ, items, pack}
 use Rattle.muxer_rxq.specs.declared.queue.MuxerRx.{MuxerRx}
 use Rattle.muxer_rxq.specs.declared.queue.MuxerRxQ.{MuxerRxQ}

@@ -5,11 +5,11 @@ use mathlib.Core.Bool.{Bool, false, _&&_}
 use mathlib.Core.List.{List, [], _∷_, _++_}
 use lib.Dec.{ltb, eqb}
 use lib.ListN.{length, set}
+use Rattle.defs.specs.Ladder.{recordAnswer}
 use Rattle.defs.specs.Choice.{when}
 use Rattle.defs.specs.Answer.{told, whenDone}
 use Rattle.defs.specs.declared.answer.Answer.{Answer}
 use Rattle.defs.specs.declared.answer.Answer.the-variants.{Done, NotQueued}
-use Rattle.conn_map.specs.Look.{recordAnswer}
 use Rattle.muxer_rxq.specs.Queue.{soundQ, items, pack, QueuedLeft}
 use Rattle.muxer_rxq.specs.declared.queue.MuxerRx.{MuxerRx}
 use Rattle.muxer_rxq.specs.declared.queue.MuxerRxQ.{MuxerRxQ}

@@ -1,19 +1,17 @@
 -- Laws for crates that call decode and encode: what each case of the answer says. Assumes nothing.
 use Prim.Native.Nat.{ℕ}
-use mathlib.Core.Path.{_≡_, refl, sym, ap, _∙_}
+use mathlib.Core.Path.{_≡_, refl, ap, _∙_}
 use mathlib.Core.Logic.{⊎-elim}
-use mathlib.Core.Bool.{Bool, true, false}
+use mathlib.Core.Bool.{true, false}
 use mathlib.Core.List.{List}
 use native.Mathlib.Omega.{arith}
 use lib.ListN.{length}
-use Rattle.defs.specs.Answer.{told}
-use Rattle.defs.specs.Limits.{headerSize, isHeaderLength}
+use Rattle.defs.specs.Limits.{isHeaderLength}
 use Rattle.defs.proofs.Basics.{true-or-false}
 use Rattle.defs.proofs.ChoiceLaws.{when-true, when-false}
 use Rattle.packet.specs.Header.{decoded, toldDecoded, DecodeLeft, decodeOf, DecodeSays}
 use Rattle.packet.specs.Promises.{ToldTellsApart}
 use Rattle.packet.specs.declared.hdr.VsockPacketHdr.{VsockPacketHdr}
-use Rattle.packet.specs.declared.hdr.Decoded.{Decoded}
 use Rattle.packet.specs.declared.hdr.Decoded.the-variants.{Header, BadHeader}
 
 abbrev numberOf : DecodeLeft → ℕ

@@ -8,7 +8,7 @@ use Rattle.defs.specs.Limits.{headerSize}
 use Rattle.defs.specs.Pinned.{Pinned}
 use Rattle.defs.specs.Reading.{Hold}
 use Rattle.defs.specs.declared.answer.Answer.the-variants.{Done}
-use Rattle.packet.specs.Le.{le, ofLe, offsets}
+use Rattle.packet.specs.Le.{offsets}
 use Rattle.packet.specs.Header.{layout, fields, flagged, toldDecoded, DecodeLeft, decodeOf, DecodeSays, EncodeIn, EncodeLeft, encodeOf, EncodeSays}
 use Rattle.packet.specs.Edges.{readingA, wrongLengths}
 use Rattle.packet.specs.declared.hdr.VsockPacketHdr.{VsockPacketHdr}

@@ -1,5 +1,5 @@
 -- Laws of `flush_to`: the first piece, what the stream takes, and each end of a call. Assumes nothing.
-use Prim.Native.Nat.{ℕ, zero, suc, _+_, _-_, _%_, _^_, _<_, _≤_, min}
+use Prim.Native.Nat.{ℕ, suc, _+_, _-_, _%_, _^_, _<_, _≤_, min}
 use mathlib.Core.Path.{_≡_, refl, sym, ap, _∙_}
 use mathlib.Core.Logic.{⊎-elim}
 use mathlib.Core.Bool.{Bool, true, false, not, _&&_, _||_}
@@ -9,19 +9,18 @@ use native.Mathlib.Nat.{mod-lt, mod-eq-of-lt, mod-add-mod, add-zero}
 use lib.Dec.{ltb, eqb}
 use lib.ListN.{length, take, drop, length-take, length-drop, length-append, take-append-drop, drop-of-length-le}
 use lib.Seq.{take-all, take-take, take-add, drop-drop, drop-at, length-take-le}
-use borrow.Author.Tests.{lt-ltb, le-ltb, ltb-true, ltb-false, eq-eqb, ne-eqb, not-false}
+use borrow.Author.Tests.{lt-ltb, le-ltb, ltb-false, eq-eqb, ne-eqb, not-false}
 use Rattle.defs.specs.Choice.{when}
-use Rattle.defs.specs.Answer.{Told, told, isDone, whenDone}
+use Rattle.defs.specs.Answer.{told, isDone}
 use Rattle.defs.specs.Limits.{maxRing}
 use Rattle.defs.specs.Stream.{counted, stoppedBy}
-use Rattle.defs.specs.Ladder.{doorOf, lateOf, lowestOf}
+use Rattle.defs.specs.Ladder.{doorOf, lateOf, lowestOf, recordAnswer}
 use Rattle.defs.specs.Wrapping.{wadd, wsub}
 use Rattle.defs.specs.Copying.{copied}
 use Rattle.defs.specs.declared.answer.Answer.{Answer}
-use Rattle.defs.specs.declared.answer.Answer.the-variants.{Done, BadRecord, BadAnswer, NoRoom, StreamBlocked, StreamFailed}
+use Rattle.defs.specs.declared.answer.Answer.the-variants.{Done, BadRecord, BadAnswer, NoRoom}
 use Rattle.defs.specs.declared.stream.StreamAnswer.{StreamAnswer}
 use Rattle.defs.specs.declared.stream.StreamAnswer.the-variants.{Count, WouldBlock, Failed}
-use Rattle.defs.specs.declared.stream.StreamAnswers.{StreamAnswers}
 use Rattle.defs.proofs.StreamLaws.{NotCount, takes-none, stops, stopped-takes-none}
 use Rattle.defs.proofs.Basics.{never, lt-or-ge, true-or-false, neither}
 use Rattle.defs.proofs.ChoiceLaws.{when-true, when-false, when-same}
@@ -29,7 +28,7 @@ use Rattle.defs.proofs.AnswerLaws.{NotDone, not-done, is-done, done-is-done, wh
 use Rattle.defs.proofs.LadderLaws.{lowest-passed, door-passed, late-passed}
 use Rattle.defs.proofs.CopyLaws.{copied-fits}
 use Rattle.defs.proofs.WrappingLaws.{keeps-place}
-use Rattle.txbuf.specs.Record.{Wide, usedOf, soundOf, recordAnswer, heldFrom, held}
+use Rattle.txbuf.specs.Record.{Wide, usedOf, soundOf, heldFrom, held}
 use Rattle.txbuf.specs.Flush.{pieceLen, firstPiece, takenBy, overBy, endsBy, FlushIn, FlushLeft, inTurn, flushCount, flushOver, flushAnswer, advanced, flushDone, flushKept, flushOf, FlushSays, finishAnswer, finishOf}
 use Rattle.txbuf.specs.Promises.{TakesOldest, FlushTakesOldest, FlushProgresses, FirstPieceIsOldest}
 use Rattle.txbuf.specs.declared.record.TxBuf.{TxBuf}

@@ -3,10 +3,10 @@ use mathlib.Core.Path.{refl}
 use Rattle.defs.specs.Choice.{when}
 use Rattle.defs.specs.Answer.{isDone, whenDone}
 use Rattle.defs.specs.Limits.{isRingSize, isPacketLength}
-use Rattle.defs.specs.Ladder.{doorOf, lateOf, lowestOf}
+use Rattle.defs.specs.Ladder.{doorOf, lateOf, lowestOf, recordAnswer}
 use Rattle.defs.specs.Copying.{copied}
 use Rattle.defs.proofs.Pins.{by-equation}
-use Rattle.txbuf.specs.Record.{soundRecord, soundOf, recordAnswer, heldFrom, held}
+use Rattle.txbuf.specs.Record.{soundRecord, soundOf, heldFrom, held}
 use Rattle.txbuf.specs.Push.{runs, pushAnswer, pushDone, pushKept, pushOf}
 use Rattle.txbuf.specs.Flush.{firstPiece, takenBy, overBy, endsBy, flushCount, flushOver, flushAnswer, flushDone, flushKept, flushOf}
 use Rattle.txbuf.specs.Edges.{readingBCD, readingF}

@@ -2,30 +2,27 @@
 use Prim.Native.Nat.{ℕ, _+_, _-_, _%_, _^_, _<_, _≤_, min}
 use mathlib.Core.Path.{_≡_, refl, sym, ap, _∙_}
 use mathlib.Core.Logic.{⊎-elim}
-use mathlib.Core.Bool.{Bool, true, false, not}
+use mathlib.Core.Bool.{Bool, true, false}
 use mathlib.Core.List.{List, [], _++_, append-nil}
 use native.Mathlib.Omega.{arith}
-use native.Mathlib.Nat.{mod-mod}
-use lib.Dec.{ltb, leb}
 use lib.ListN.{length, take, drop, length-drop, drop-of-length-le}
 use lib.Seq.{take-all}
-use borrow.Author.Tests.{ltb-false, le-ltb, leb-true, not-false}
+use borrow.Author.Tests.{ltb-false, le-ltb, not-false}
 use Rattle.defs.specs.Choice.{when}
 use Rattle.defs.specs.Answer.{told, isDone, whenDone}
-use Rattle.defs.specs.Limits.{maxPacket, isPacketLength}
+use Rattle.defs.specs.Limits.{maxPacket}
 use Rattle.defs.specs.Ladder.{doorOf, lowestOf}
 use Rattle.defs.specs.Wrapping.{wadd, wsub}
 use Rattle.defs.specs.Copying.{copied}
 use Rattle.defs.specs.declared.answer.Answer.{Answer}
 use Rattle.defs.specs.declared.answer.Answer.the-variants.{Done, TxBufFull}
 use Rattle.defs.proofs.Basics.{lt-or-ge, true-or-false}
-use Rattle.defs.proofs.ChoiceLaws.{when-true, when-false}
 use Rattle.defs.proofs.AnswerLaws.{NotDone, not-done, is-done, when-done, when-not-done, told-tells-apart}
 use Rattle.defs.proofs.LadderLaws.{lowest-passed, door-passed}
 use Rattle.defs.proofs.LimitLaws.{packet-length}
 use Rattle.defs.proofs.WrappingLaws.{keeps-place}
-use Rattle.txbuf.specs.Record.{Wide, usedOf, soundOf, heldFrom, held}
-use Rattle.txbuf.specs.Push.{runs, written, PushIn, PushLeft, pushAnswer, pushAnswerOf, pushDone, pushKept, pushOf, PushSays}
+use Rattle.txbuf.specs.Record.{Wide, usedOf, heldFrom, held}
+use Rattle.txbuf.specs.Push.{runs, written, PushIn, PushLeft, pushAnswer, pushAnswerOf, pushDone, pushKept, pushOf}
 use Rattle.txbuf.specs.Promises.{PushAppends}
 use Rattle.txbuf.specs.declared.record.TxBuf.{TxBuf}
 use Rattle.txbuf.proofs.RecordLaws.{Sound, sound-says, is-sound}

@@ -1,21 +1,18 @@
 -- Laws of the ring's record: what soundness says, and what is held. Assumes nothing.
-use Prim.Native.Nat.{ℕ, zero, suc, _+_, _-_, _%_, _^_, _<_, _≤_, min}
-use mathlib.Core.Path.{_≡_, refl, sym, ap, _∙_}
-use mathlib.Core.Bool.{Bool, true, false, not, _&&_}
+use Prim.Native.Nat.{ℕ, zero, suc, _+_, _-_, _%_, _<_, _≤_, min}
+use mathlib.Core.Path.{_≡_, refl, ap}
+use mathlib.Core.Bool.{true}
 use mathlib.Core.List.{List}
 use native.Mathlib.Omega.{arith}
 use native.Mathlib.Nat.{mod-lt}
 use mir.Val.{Fits}
 use mir.Syntax.{w64}
-use lib.Dec.{leb, eqb}
 use lib.ListN.{length}
 use borrow.Author.Tests.{leb-true, eqb-true, le-leb, eq-eqb}
-use Rattle.defs.specs.Ladder.{doorOf}
 use Rattle.defs.specs.Limits.{minRing, maxRing, isRingSize}
 use Rattle.defs.proofs.Basics.{both}
 use Rattle.defs.proofs.LimitLaws.{ring-size}
-use Rattle.txbuf.specs.Record.{usedOf, soundRecord, soundOf, recordAnswer, heldFrom, held}
-use Rattle.defs.specs.declared.answer.Answer.{Answer}
+use Rattle.txbuf.specs.Record.{usedOf, soundRecord, soundOf, heldFrom, held}
 use Rattle.txbuf.specs.declared.record.TxBuf.{TxBuf}
 
 -- what soundness says, over a storage of n bytes
@@ -37,11 +34,6 @@ sound-says b n e =
 pub is-sound : (b : TxBuf) (n : ℕ) → Sound b n → soundOf b n ≡ true
 unfolding soundOf soundRecord
 is-sound b n s = simp (s .sized, le-leb _ _ (s .within), eq-eqb _ _ (s .whole))
-
--- the answer of a call that tests nothing but its record
-pub record-answer : (a : Answer) (t s : Bool) → a ≡ doorOf (not t) false false false → t ≡ s → a ≡ recordAnswer s
-unfolding recordAnswer
-record-answer a t s e f = e ∙ ap (λ (x : Bool). doorOf (not x) false false false) f
 
 -- an offset into the storage, whichever counter it is of
 pub offset-fits : (x size : ℕ) → 0 < size → size ≤ maxRing → Fits w64 (x % size)

@@ -5,7 +5,7 @@ use mathlib.Core.Logic.{⊎-elim}
 use Prim.Native.Nat.{ℕ, zero, suc, _+_, _-_, _<_, _≤_, _%_}
 use native.Mathlib.Nat.{suc-mod, mod-lt, mod-eq-of-lt, mod-add-mod, mod-eq-sub-mod, mod-self, zero-add, add-zero, add-suc, suc-add, sub-zero, suc-sub-suc}
 use native.Mathlib.Omega.{arith}
-use lib.ListN.{length, take, drop, getD, set, length-set, length-append, length-take, length-drop, take-append-drop, drop-of-length-le}
+use lib.ListN.{length, take, drop, getD, set, length-set, length-append, length-drop, take-append-drop, drop-of-length-le}
 use lib.Seq.{drop-cons, append-snoc, getD-set-same, getD-set-other, sets, sets-eq, drop-drop, length-take-le}
 use Rattle.defs.specs.Copying.{copied}
 use Rattle.defs.proofs.Basics.{lt-or-ge}

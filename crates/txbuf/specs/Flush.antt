@@ -8,14 +8,14 @@ use lib.Dec.{ltb, eqb}
 use Rattle.defs.specs.Choice.{when}
 use Rattle.defs.specs.Answer.{Told, told, whenDone}
 use Rattle.defs.specs.Stream.{counted, stoppedBy}
-use Rattle.defs.specs.Ladder.{lateOf, lowestOf}
+use Rattle.defs.specs.Ladder.{lateOf, lowestOf, recordAnswer}
 use Rattle.defs.specs.Wrapping.{wadd}
 use Rattle.defs.specs.Copying.{copied}
 use Rattle.defs.specs.declared.answer.Answer.{Answer}
 use Rattle.defs.specs.declared.answer.Answer.the-variants.{Done}
 use Rattle.defs.specs.declared.stream.StreamAnswer.{StreamAnswer}
 use Rattle.defs.specs.declared.stream.StreamAnswers.{StreamAnswers}
-use Rattle.txbuf.specs.Record.{usedOf, soundOf, held, recordAnswer}
+use Rattle.txbuf.specs.Record.{usedOf, soundOf, held}
 use Rattle.txbuf.specs.declared.record.TxBuf.{TxBuf}
 
 -- how many of n bytes held from the place t on are offered: to the storage's end or the head, whichever is nearer

@@ -1,5 +1,5 @@
 -- What this crate promises, in statements only; proofs/Promises has a line for each. Assumes nothing.
-use Prim.Native.Nat.{ℕ, suc, _%_, _^_, _<_, _≤_}
+use Prim.Native.Nat.{ℕ, suc, _%_, _<_, _≤_}
 use mathlib.Core.Path.{_≡_}
 use mathlib.Core.Bool.{Bool, true}
 use mathlib.Core.List.{List, _++_}

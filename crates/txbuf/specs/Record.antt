@@ -1,15 +1,14 @@
 -- The ring's record (01, "The ring"): what is sound, what it holds, and the calls that only look at it. Assumes nothing.
 use Prim.Native.Nat.{ℕ, zero, suc, _%_, _^_, _<_}
 use mathlib.Core.Path.{_≡_}
-use mathlib.Core.Bool.{Bool, true, false, not, _&&_}
+use mathlib.Core.Bool.{Bool, false, _&&_}
 use mathlib.Core.List.{List, [], _∷_}
 use lib.ListN.{getD}
 use lib.Dec.{leb, eqb}
 use Rattle.defs.specs.Answer.{Told, told, whenDone}
 use Rattle.defs.specs.Limits.{isRingSize}
-use Rattle.defs.specs.Ladder.{doorOf}
+use Rattle.defs.specs.Ladder.{recordAnswer}
 use Rattle.defs.specs.Wrapping.{wsub}
-use Rattle.defs.specs.declared.answer.Answer.{Answer}
 use Rattle.txbuf.specs.declared.record.TxBuf.{TxBuf}
 
 -- how many bytes are held: head minus tail, 32-bit wrapping
@@ -39,10 +38,6 @@ unfoldable pub held : TxBuf → List ℕ → List ℕ
 held b store = heldFrom store (b .size) (b .tail) (usedOf b)
 
 -- ---- the calls that only look, and the constructor
-
--- answer 1, exactly where the record is not sound
-unfoldable pub recordAnswer : Bool → Answer
-recordAnswer sound = doorOf (not sound) false false false
 
 pub record NewLeft : Type 0 where
   pub answer : Told

@@ -1,5 +1,5 @@
 use borrow.Author.Needs.{needs}
-use Rattle.conn_map.specs.Look.{recordAnswer}
+use Rattle.defs.specs.Ladder.{recordAnswer}
 use Rattle.conn_map.proofs.look.record_answer.Statement.{statement}
 use Rattle.conn_map.proofs.look.record_answer.Tie as tie
 

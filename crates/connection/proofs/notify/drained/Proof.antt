@@ -1,5 +1,5 @@
 use borrow.Author.Needs.{needs}
-use mathlib.Core.Path.{_≡_, sym, ap, _∙_}
+use mathlib.Core.Path.{sym, ap, _∙_}
 use Rattle.defs.proofs.ChoiceLaws.{when-true, when-false}
 use Rattle.connection.specs.Notify.{settledOf, drainedOf}
 use Rattle.connection.specs.Record.{killedOf}

@@ -1,6 +1,4 @@
 use borrow.Author.Needs.{needs}
-use mathlib.Core.Path.{_≡_, sym, ap, _∙_}
-use Rattle.defs.proofs.ChoiceLaws.{when-true, when-false}
 use Rattle.connection.proofs.NotifyLaws.{settled-reset, settled-updated}
 use Rattle.connection.proofs.notify.settled.Statement.{statement}
 use Rattle.connection.proofs.notify.settled.Tie as tie

@@ -1,7 +1,7 @@
 use borrow.Author.Needs.{needs}
-use mathlib.Core.Path.{_≡_, sym, ap, _∙_}
+use mathlib.Core.Path.{sym, ap, _∙_}
 use Rattle.defs.proofs.ChoiceLaws.{when-true, when-false}
-use Rattle.connection.specs.Send.{onData, movedOf, updatedOf}
+use Rattle.connection.specs.Send.{onData, updatedOf}
 use Rattle.connection.specs.Record.{killedOf}
 use Rattle.connection.proofs.send.on_data.Statement.{statement}
 use Rattle.connection.proofs.send.on_data.Tie as tie

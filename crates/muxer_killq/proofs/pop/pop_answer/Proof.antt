@@ -1,10 +1,10 @@
 use borrow.Author.Needs.{needs}
-use Rattle.muxer_killq.specs.Pop.{popAnswer}
+use Rattle.defs.specs.Ladder.{clockAnswer}
 use Rattle.muxer_killq.proofs.pop.pop_answer.Statement.{statement}
 use Rattle.muxer_killq.proofs.pop.pop_answer.Tie as tie
 
 returns : tie.Need-returns
-unfolding popAnswer
+unfolding clockAnswer
 returns c = rw (← c .before .is-clock .ensures) (c .door .ensures)
 
 pub pop-answer-spec : {M : Type 1} → statement M

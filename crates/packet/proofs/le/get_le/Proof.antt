@@ -1,11 +1,10 @@
 -- `get_le` meets its contract. The invariant: the bytes from `left` on make the number so far, so it stays below 256 ^ 7 until the last.
-use Prim.Native.Nat.{ℕ, _+_, _-_, _^_, _<_, _≤_}
-use mathlib.Core.Path.{_≡_, refl, _∙_, sym}
+use Prim.Native.Nat.{_+_, _-_, _^_, _<_, _≤_}
+use mathlib.Core.Path.{_≡_}
 use native.Mathlib.Omega.{arith}
 use native.Mathlib.Nat.{sub-self, sub-zero, add-zero}
 use denote.Ref.{now}
 use borrow.Author.Needs.{needs}
-use lib.ListN.{length}
 use Rattle.packet.specs.Le.{numAt}
 use Rattle.packet.proofs.LeLaws.{get-step, below}
 use Rattle.packet.proofs.le.get_le.Statement.{statement}

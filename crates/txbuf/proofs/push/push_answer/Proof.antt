@@ -1,9 +1,8 @@
 use Prim.Native.Nat.{_≤_, _<_, _+_}
-use mathlib.Core.Path.{_≡_, sym, _∙_}
+use mathlib.Core.Path.{sym, _∙_}
 use native.Mathlib.Omega.{arith}
 use borrow.Author.Needs.{needs}
 use borrow.Author.Tests.{not-false, lt-ltb, le-ltb}
-use Rattle.defs.specs.Limits.{maxPacket}
 use Rattle.defs.proofs.ChoiceLaws.{when-true, when-false}
 use Rattle.defs.proofs.LadderLaws.{lowest-kept, lowest-on, door-passed}
 use Rattle.defs.proofs.LimitLaws.{packet-length}

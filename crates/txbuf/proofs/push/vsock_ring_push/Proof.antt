@@ -1,6 +1,6 @@
-use mathlib.Core.Path.{ap, _∙_}
+use mathlib.Core.Path.{ap}
 use borrow.Author.Needs.{needs}
-use Rattle.txbuf.specs.Push.{NumberedLeft, numbered}
+use Rattle.txbuf.specs.Push.{numbered}
 use Rattle.txbuf.proofs.push.vsock_ring_push.Statement.{statement}
 use Rattle.txbuf.proofs.push.vsock_ring_push.Tie as tie
 

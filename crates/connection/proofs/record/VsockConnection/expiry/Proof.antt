@@ -1,6 +1,6 @@
 use borrow.Author.Needs.{needs}
+use Rattle.defs.proofs.LadderLaws.{record-answer}
 use Rattle.defs.proofs.AnswerLaws.{outcome-kept, outcome-done}
-use Rattle.txbuf.proofs.RecordLaws.{record-answer}
 use Rattle.connection.specs.Look.{expiryOf}
 use Rattle.connection.proofs.record.VsockConnection.expiry.Statement.{statement}
 use Rattle.connection.proofs.record.VsockConnection.expiry.Tie as tie

@@ -1,5 +1,5 @@
 use borrow.Author.Needs.{needs}
-use Rattle.txbuf.proofs.RecordLaws.{record-answer}
+use Rattle.defs.proofs.LadderLaws.{record-answer}
 use Rattle.connection.proofs.LookLaws.{evset-kept, evset-done}
 use Rattle.connection.proofs.record.VsockConnection.get_polled_evset.Statement.{statement}
 use Rattle.connection.proofs.record.VsockConnection.get_polled_evset.Tie as tie

@@ -1,6 +1,6 @@
 use borrow.Author.Needs.{needs}
+use Rattle.defs.proofs.LadderLaws.{clock-answer}
 use Rattle.defs.proofs.AnswerLaws.{outcome-kept, outcome-done}
-use Rattle.connection.proofs.LookLaws.{clock-answer}
 use Rattle.connection.specs.Look.{hasExpiredOf}
 use Rattle.connection.proofs.record.VsockConnection.has_expired.Statement.{statement}
 use Rattle.connection.proofs.record.VsockConnection.has_expired.Tie as tie

@@ -4,9 +4,7 @@ use mathlib.Core.Path.{_≡_, sym, ap, _∙_}
 use native.Mathlib.Omega.{arith}
 use lib.ListN.{length-take}
 use denote.Ref.{now}
-use Prim.Native.Nat.{ℕ}
-use Rattle.connection.specs.Receive.{RecvIn, Receivable, rowOf, saidBy}
-use Rattle.connection.specs.declared.receive.RxStep.{RxStep}
+use Rattle.connection.specs.Receive.{RecvIn, rowOf, saidBy}
 use Rattle.connection.specs.declared.receive.Row.{Row}
 use Rattle.connection.proofs.ReceiveLaws.{Passed, passed, recv-kept, recv-left}
 use Rattle.connection.proofs.record.VsockConnection.recv_pkt.Statement.{statement}

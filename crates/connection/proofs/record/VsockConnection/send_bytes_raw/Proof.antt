@@ -4,7 +4,7 @@ use mathlib.Core.Path.{_≡_, sym, _∙_}
 use native.Mathlib.Omega.{arith}
 use lib.ListN.{length-take}
 use denote.Ref.{now}
-use Rattle.connection.specs.Raw.{RawIn, rawAnswer, rawCount}
+use Rattle.connection.specs.Raw.{RawIn, rawAnswer}
 use Rattle.connection.proofs.RawLaws.{raw-answer, raw-kept, raw-left, raw-fits}
 use Rattle.connection.proofs.record.VsockConnection.send_bytes_raw.Statement.{statement}
 use Rattle.connection.proofs.record.VsockConnection.send_bytes_raw.Tie as tie

@@ -1,12 +1,11 @@
 -- `send_pkt` meets its contract: refused, or the bytes carried and the record ruled by one plan.
 use borrow.Author.Needs.{needs}
-use mathlib.Core.Path.{_≡_, sym, ap, _∙_}
-use mathlib.Core.Bool.{Bool, _&&_, not}
+use mathlib.Core.Path.{sym, ap, _∙_}
 use native.Mathlib.Omega.{arith}
 use lib.ListN.{length-take}
 use denote.Ref.{now}
 use Rattle.packet.proofs.Callers.{header-is, no-header}
-use Rattle.connection.specs.Send.{SendIn, Killable, Lingers, killsOf}
+use Rattle.connection.specs.Send.{SendIn}
 use Rattle.connection.specs.declared.send.SendPlan.{SendPlan}
 use Rattle.connection.proofs.SendLaws.{Passed, Found, passed, found, carries, rules, send-no-header, send-kept, send-left}
 use Rattle.connection.proofs.record.VsockConnection.send_pkt.Statement.{statement}

@@ -1,7 +1,7 @@
 use mathlib.Core.Path.{ap, _∙_}
 use borrow.Author.Needs.{needs}
+use Rattle.defs.specs.Ladder.{recordAnswer}
 use Rattle.defs.proofs.AnswerLaws.{outcome-kept, outcome-done}
-use Rattle.conn_map.specs.Look.{recordAnswer}
 use Rattle.muxer_killq.specs.Queue.{newOf}
 use Rattle.muxer_killq.proofs.queue.MuxerKillQ.new.Statement.{statement}
 use Rattle.muxer_killq.proofs.queue.MuxerKillQ.new.Tie as tie

@@ -4,17 +4,17 @@ use mathlib.Core.Bool.{Bool}
 use native.Mathlib.Omega.{arith}
 use borrow.Author.Needs.{needs}
 use lib.ListN.{length}
+use Rattle.defs.specs.Ladder.{clockAnswer}
 use Rattle.defs.specs.Limits.{maxKillq}
 use Rattle.conn_map.proofs.PlacesLaws.{long}
 use Rattle.muxer_killq.specs.Queue.{soundQ}
-use Rattle.muxer_killq.specs.Pop.{popAnswer}
 use Rattle.muxer_killq.proofs.PopLaws.{sound, some, pop-kept, pop-none, pop-front}
 use Rattle.muxer_killq.proofs.queue.MuxerKillQ.pop.Statement.{statement}
 use Rattle.muxer_killq.proofs.queue.MuxerKillQ.pop.Tie as tie
 
 -- what the answer is
-answered : (c : tie.After-pop-answer) → c .pop-answer .result ≡ popAnswer (soundQ (c .before .before .before .args .t1)) (c .before .before .before .args .clock)
-answered c = c .pop-answer .ensures ∙ ap (λ (b : Bool). popAnswer b (c .before .before .before .args .clock)) (c .before .is-sound .ensures)
+answered : (c : tie.After-pop-answer) → c .pop-answer .result ≡ clockAnswer (soundQ (c .before .before .before .args .t1)) (c .before .before .before .args .clock)
+answered c = c .pop-answer .ensures ∙ ap (λ (b : Bool). clockAnswer b (c .before .before .before .args .clock)) (c .before .is-sound .ensures)
 
 -- the array is as long as its type says
 whole : (c : tie.Start) → length (c .args .t1 .q) ≡ maxKillq

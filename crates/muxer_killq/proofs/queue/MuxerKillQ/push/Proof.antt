@@ -3,8 +3,8 @@ use mathlib.Core.Path.{_≡_, ap, _∙_}
 use native.Mathlib.Omega.{arith}
 use borrow.Author.Needs.{needs}
 use lib.ListN.{length}
+use Rattle.defs.specs.Ladder.{recordAnswer}
 use Rattle.defs.specs.Limits.{maxKillq}
-use Rattle.conn_map.specs.Look.{recordAnswer}
 use Rattle.conn_map.proofs.PlacesLaws.{long}
 use Rattle.muxer_killq.specs.Queue.{soundQ}
 use Rattle.muxer_killq.proofs.PushLaws.{room-within, push-kept, push-appends, push-turned}

@@ -4,7 +4,7 @@ use lib.ListN.{length, take, length-take}
 use Rattle.defs.specs.Answer.{told}
 use Rattle.defs.specs.Stream.{counted}
 use Rattle.defs.specs.declared.answer.Answer.the-variants.{Done, BadRecord, BadAnswer}
-use Rattle.txbuf.specs.Flush.{pieceLen, firstPiece, FlushIn, finishOf}
+use Rattle.txbuf.specs.Flush.{pieceLen, FlushIn, finishOf}
 use Rattle.txbuf.specs.declared.flush.Flushed.{Flushed}
 use Rattle.txbuf.proofs.RecordLaws.{Sound, sound-says}
 use Rattle.txbuf.proofs.FlushLaws.{piece-length, nothing-held, something-held, stopped-left, flush-unsound, flush-empty, flush-stops, flush-bad, flush-short, whole-left, held-falls, rest-small, count-small}

@@ -1,7 +1,7 @@
 use borrow.Author.Needs.{needs}
+use Rattle.defs.proofs.LadderLaws.{record-answer}
 use Rattle.defs.proofs.AnswerLaws.{outcome-kept, outcome-done}
 use Rattle.txbuf.specs.Record.{lenOf}
-use Rattle.txbuf.proofs.RecordLaws.{record-answer}
 use Rattle.txbuf.proofs.record.TxBuf.len.Statement.{statement}
 use Rattle.txbuf.proofs.record.TxBuf.len.Tie as tie
 
