@@ -153,85 +153,74 @@ fn across_the_end() {
         head: 4294967290,
         tail: 4294967290,
     };
-    look(start, &storage);
-    let a = flush(
-        start,
-        &storage,
-        StreamAnswer::Count(9),
-        StreamAnswer::Failed,
-        16,
-    );
-    let b = push(a, &mut storage, b"0123456789");
-    look(b, &storage);
-    let c = flush(
-        b,
-        &storage,
-        StreamAnswer::WouldBlock,
-        StreamAnswer::Count(9),
-        16,
-    );
-    let d = flush(
-        c,
-        &storage,
-        StreamAnswer::Failed,
-        StreamAnswer::Count(9),
-        16,
-    );
-    let e = flush(
-        d,
-        &storage,
-        StreamAnswer::Count(2),
-        StreamAnswer::Count(9),
-        16,
-    );
-    let f = flush(
-        e,
-        &storage,
-        StreamAnswer::Count(4),
-        StreamAnswer::Failed,
-        16,
-    );
-    look(f, &storage);
-    let g = push(f, &mut storage, b"abcdefghijkl");
-    look(g, &storage);
-    let h = push(g, &mut storage, b"!");
-    let i = flush(
-        h,
-        &storage,
-        StreamAnswer::Count(16),
-        StreamAnswer::Count(9),
-        16,
-    );
-    look(i, &storage);
-    let j = push(i, &mut storage, b"ABCDEFGHIJKLMNO");
-    let k = flush(
-        j,
-        &storage,
-        StreamAnswer::Count(16),
-        StreamAnswer::Count(0),
-        16,
-    );
-    let l = flush(
-        k,
-        &storage,
-        StreamAnswer::Count(15),
-        StreamAnswer::WouldBlock,
-        15,
-    );
-    look(l, &storage);
-    let m = push(l, &mut storage, b"");
-    let n = push(m, &mut storage, b"xyz");
-    let o = flush(
-        n,
-        &storage,
-        StreamAnswer::Count(1),
-        StreamAnswer::Count(2),
-        3,
-    );
-    look(o, &storage);
+    let filled = empty_then_ten(start, &mut storage);
+    let drained = in_short_counts(filled, &mut storage);
+    full_and_drained(drained, &mut storage);
 }
 
-// Ten bytes held from offset 10: pieces of six and four.
+// An empty ring offers nothing, so no answer is reached; ten bytes go round the end.
+fn empty_then_ten(ring: TxBuf, storage: &mut [u8]) -> TxBuf {
+    let nine = StreamAnswer::Count(9);
+    let fails = StreamAnswer::Failed;
+    look(ring, storage);
+    let a = flush(ring, storage, nine, fails, 16);
+    let b = push(a, storage, b"0123456789");
+    look(b, storage);
+    b
+}
+
+// A first write that blocks or fails is answer 10; a second one that fails leaves the first count.
+fn in_short_counts(ring: TxBuf, storage: &mut [u8]) -> TxBuf {
+    let two = StreamAnswer::Count(2);
+    let four = StreamAnswer::Count(4);
+    let nine = StreamAnswer::Count(9);
+    let blocks = StreamAnswer::WouldBlock;
+    let fails = StreamAnswer::Failed;
+    let a = flush(ring, storage, blocks, nine, 16);
+    let b = flush(a, storage, fails, nine, 16);
+    let c = flush(b, storage, two, nine, 16);
+    let d = flush(c, storage, four, fails, 16);
+    look(d, storage);
+    d
+}
+
+// Filled to the last byte, one byte more turned away, drained in one piece and then in two.
+fn full_and_drained(ring: TxBuf, storage: &mut [u8]) {
+    let nine = StreamAnswer::Count(9);
+    let all = StreamAnswer::Count(16);
+    let a = push(ring, storage, b"abcdefghijkl");
+    look(a, storage);
+    let b = push(a, storage, b"!");
+    let c = flush(b, storage, all, nine, 16);
+    look(c, storage);
+    let d = fifteen_more(c, storage);
+    in_two_pieces(d, storage);
+}
+
+// One piece again: a count over it is refused, its own count takes it whole.
+fn fifteen_more(ring: TxBuf, storage: &mut [u8]) -> TxBuf {
+    let none = StreamAnswer::Count(0);
+    let fifteen = StreamAnswer::Count(15);
+    let sixteen = StreamAnswer::Count(16);
+    let blocks = StreamAnswer::WouldBlock;
+    let a = push(ring, storage, b"ABCDEFGHIJKLMNO");
+    let b = flush(a, storage, sixteen, none, 16);
+    let c = flush(b, storage, fifteen, blocks, 15);
+    look(c, storage);
+    c
+}
+
+// A push of nothing, and three bytes of which the last two lie at the start.
+fn in_two_pieces(ring: TxBuf, storage: &mut [u8]) {
+    let one = StreamAnswer::Count(1);
+    let two = StreamAnswer::Count(2);
+    let a = push(ring, storage, b"");
+    let b = push(a, storage, b"xyz");
+    let c = flush(b, storage, one, two, 3);
+    look(c, storage);
+}
+
+// Ten bytes held from offset 10, so that the pieces are six and four.
 fn refusals() {
     let mut storage = *b"6789......012345";
     let ring = TxBuf {
@@ -239,90 +228,57 @@ fn refusals() {
         head: 20,
         tail: 10,
     };
-    flush(
-        ring,
-        &storage,
-        StreamAnswer::Count(7),
-        StreamAnswer::Count(0),
-        16,
-    );
-    flush(
-        ring,
-        &storage,
-        StreamAnswer::Count(6),
-        StreamAnswer::Count(5),
-        16,
-    );
-    flush(
-        ring,
-        &storage,
-        StreamAnswer::Count(6),
-        StreamAnswer::Count(5),
-        3,
-    );
-    flush(
-        ring,
-        &storage,
-        StreamAnswer::Count(6),
-        StreamAnswer::Count(4),
-        9,
-    );
-    flush(
-        ring,
-        &storage,
-        StreamAnswer::Count(6),
-        StreamAnswer::Failed,
-        5,
-    );
-    flush(
-        ring,
-        &storage,
-        StreamAnswer::Count(6),
-        StreamAnswer::WouldBlock,
-        6,
-    );
-    flush(
-        ring,
-        &storage,
-        StreamAnswer::Count(6),
-        StreamAnswer::Count(4),
-        10,
-    );
-    flush(
-        ring,
-        &storage,
-        StreamAnswer::Count(0),
-        StreamAnswer::Count(99),
-        0,
-    );
+    too_much(ring, &storage);
+    no_room(ring, &storage);
     push(ring, &mut storage, b"1234567");
+    unsound(&mut storage);
+}
+
+// Counts over what was offered, also where there is no room for them: 5 before 6.
+fn too_much(ring: TxBuf, storage: &[u8]) {
+    let none = StreamAnswer::Count(0);
+    let five = StreamAnswer::Count(5);
+    let six = StreamAnswer::Count(6);
+    let seven = StreamAnswer::Count(7);
+    flush(ring, storage, seven, none, 16);
+    flush(ring, storage, six, five, 16);
+    flush(ring, storage, six, five, 3);
+}
+
+// Room for one byte less than was taken, and for just as much; a count that isn't reached needs none.
+fn no_room(ring: TxBuf, storage: &[u8]) {
+    let none = StreamAnswer::Count(0);
+    let four = StreamAnswer::Count(4);
+    let six = StreamAnswer::Count(6);
+    let many = StreamAnswer::Count(99);
+    let blocks = StreamAnswer::WouldBlock;
+    let fails = StreamAnswer::Failed;
+    flush(ring, storage, six, four, 9);
+    flush(ring, storage, six, fails, 5);
+    flush(ring, storage, six, blocks, 6);
+    flush(ring, storage, six, four, 10);
+    flush(ring, storage, none, many, 0);
+}
+
+// More held than the size, and a storage that is not the size.
+fn unsound(storage: &mut [u8]) {
+    let one = StreamAnswer::Count(1);
+    let fails = StreamAnswer::Failed;
     let over = TxBuf {
         size: 16,
         head: 20,
         tail: 3,
     };
-    push(over, &mut storage, b"1");
-    flush(
-        over,
-        &storage,
-        StreamAnswer::Count(1),
-        StreamAnswer::Failed,
-        16,
-    );
-    look(over, &storage);
+    push(over, storage, b"1");
+    flush(over, storage, one, fails, 16);
+    look(over, storage);
     let short = TxBuf {
         size: 32,
         head: 0,
         tail: 0,
     };
-    push(short, &mut storage, b"1");
-    flush(
-        short,
-        &storage,
-        StreamAnswer::Failed,
-        StreamAnswer::Failed,
-        16,
-    );
+    push(short, storage, b"1");
+    flush(short, storage, fails, fails, 16);
 }
 
 // A ring of 65,536 bytes, filled across its end in one push; one byte more is 9, and a source of
