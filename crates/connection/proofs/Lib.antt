@@ -4,5 +4,6 @@ pub mod RecordLaws
 pub mod ReceiveLaws
 pub mod SendLaws
 pub mod NotifyLaws
+pub mod OfferLaws
 pub mod MovesLaws
 pub mod Promises

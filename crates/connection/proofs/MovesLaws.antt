@@ -39,7 +39,7 @@ use Rattle.connection.specs.declared.record.Timer.{Timer}
 use Rattle.connection.specs.declared.record.PendingRxSet.{PendingRxSet}
 use Rattle.connection.specs.declared.state.ConnState.{ConnState}
 use Rattle.connection.specs.declared.send.SendPlan.{SendPlan}
-use Rattle.connection.proofs.SendLaws.{Passed, answer-passed, carries}
+use Rattle.connection.proofs.SendLaws.{Passed, passed, carries}
 
 -- whichever way it goes, the same account
 either : (b : Bool) (x y : VsockConnection) (v : Account) → account x ≡ v → account y ≡ v → account (when b x y) ≡ v
@@ -225,7 +225,7 @@ SendMoved i left =
 data-moves : (i : SendIn) → Numbers (i .conn) → sendAnswer i ≡ Done → sendPlan i .goes ≡ true → SendMoved i (sendDone i)
 unfolding account sendTaken accepted sendDone
 data-moves i n d g =
-    let s = answer-passed i d in
+    let s = passed i d in
     let o = gone i (n .ring) s g in
     let l : length (payload i) ≡ sendPlan i .len = length-take-le _ (i .buf) (s .part) in
     let k = s .killable in

@@ -22,7 +22,7 @@ use Rattle.txbuf.proofs.FlushLaws.{flush-answer, flush-kept, count-small}
 use Rattle.connection.specs.State.{bothOff}
 use Rattle.connection.specs.Record.{soundOver, quiet, withState, marked}
 use Rattle.connection.specs.Send.{failed, updatedOf}
-use Rattle.connection.specs.Notify.{seenOf, absorbed, settledOf, drainedOf, NotifyIn, NotifyLeft, due, flushIn, notifyAnswer, notifyDone, notifyKept, notifyOf}
+use Rattle.connection.specs.Notify.{seenOf, absorbed, settledOf, drainedOf, notifyDoor, NotifyIn, NotifyLeft, due, flushIn, notifyAnswer, notifyDone, notifyKept, notifyOf}
 use Rattle.connection.specs.declared.record.PendingRxSet.{PendingRxSet}
 use Rattle.connection.specs.declared.record.VsockConnection.{VsockConnection}
 use Rattle.connection.proofs.RecordLaws.{sound-over-says}
@@ -44,12 +44,13 @@ settled-updated c r off empty e f t g =
 
 -- ---- the call's answer
 
--- the record's door, as the code tests it
-pub record Door (i : NotifyIn) (a : Answer) : Type 0 where
-  pub says : a ≡ recordAnswer (soundOver (i .conn) (length (i .store)))
+pub notify-door : (c : VsockConnection) (storage : ℕ) (a : Answer) (s : Bool) → a ≡ doorOf (not s) false false false → s ≡ soundOver c storage → a ≡ notifyDoor c storage
+unfolding notifyDoor
+notify-door c storage a s e f = record-answer a s _ e f
 
-pub door : (i : NotifyIn) (a : Answer) (s : Bool) → a ≡ doorOf (not s) false false false → s ≡ soundOver (i .conn) (length (i .store)) → Door i a
-door i a s e f = record { says = record-answer a s _ e f }
+-- the door, as the call finds it
+abbrev pub Door : NotifyIn → Answer → Type 0
+Door i a = a ≡ notifyDoor (i .conn) (length (i .store))
 
 -- whether a flush is due, as the code tests it
 pub is-due : (i : NotifyIn) (q t : Bool) → q ≡ quiet (i .conn) → i .writable && not q ≡ t → due i ≡ t
@@ -57,7 +58,7 @@ is-due i q t e f = rw e at f
 
 past-door : (i : NotifyIn) (a : Answer) → Door i a → a ≡ Done → notifyAnswer i ≡ when (due i) (absorbed (flushAnswer (flushIn i))) Done
 unfolding notifyAnswer
-past-door i a d e = lowest-on a _ _ (d .says) e
+past-door i a d e = lowest-on a _ _ d e
 
 -- ---- the ends of the call
 
@@ -68,7 +69,7 @@ kept i a e k =
 
 pub notify-refused : (i : NotifyIn) (a : Answer) → Door i a → NotDone a → _≡_ {A = NotifyLeft} (record { answer = told a; conn = i .conn; out = i .out }) (notifyOf i)
 unfolding notifyAnswer
-notify-refused i a d k = kept i a (lowest-kept a _ _ (d .says) k) k
+notify-refused i a d k = kept i a (lowest-kept a _ _ d k) k
 
 pub notify-seen : (i : NotifyIn) (a : Answer) (c : VsockConnection) → Door i a → a ≡ Done → due i ≡ false → c ≡ seenOf (i .conn) (i .readable)
     → _≡_ {A = NotifyLeft} (record { answer = told a; conn = c; out = i .out }) (notifyOf i)
@@ -96,9 +97,9 @@ flushing i a b f left d e n says t g = record {
 
 -- it takes no more than a ring holds
 pub flush-within : (i : NotifyIn) (a b : Answer) (left : FlushLeft) → Flushing i a b left → left .count ≤ maxRing
-unfolding recordAnswer
+unfolding notifyDoor recordAnswer
 flush-within i a b left f =
-    let d = door-passed _ _ _ _ (sym (f .passed .says) ∙ f .done) in
+    let d = door-passed _ _ _ _ (sym (f .passed) ∙ f .done) in
     let s = sound-over-says (i .conn) (length (i .store)) (not-false _ (d .record-ok)) .0 in
     let c = count-small (flushIn i) left (f .says) in
     omega arith

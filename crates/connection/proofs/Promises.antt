@@ -13,19 +13,32 @@ use Rattle.txbuf.specs.Push.{runs, pushDone}
 use Rattle.txbuf.specs.Flush.{takenBy, overBy, endsBy, flushCount, flushOver, flushAnswer, flushDone, flushKept, flushOf}
 use Rattle.connection.specs.Record.{okSettings, soundConn, soundOver, quiet, creditOf, withState, killedOf}
 use Rattle.connection.specs.Look.{hasExpiredOf}
-use Rattle.connection.specs.Notify.{seenOf, absorbed, settledOf, drainedOf, notifyAnswer, notifyDone, notifyKept, notifyOf}
+use Rattle.connection.specs.Notify.{seenOf, absorbed, settledOf, drainedOf, notifyDoor, notifyAnswer, notifyDone, notifyKept, notifyOf}
 use Rattle.connection.specs.Open.{freshOf, openAnswer, peerInitOf}
 use Rattle.connection.specs.Receive.{nextStep, spokenOf, receivedOf, headerOf, recvDoor, readsOf, recvRefusal, recvDone, recvKept, recvOf}
-use Rattle.connection.specs.Send.{heardOf, movedOf, updatedOf, onData, ruleOf, goesOf, planOf, killsOf, sendRefusal, carried, sendAnswer, sendDone, sendKept, sendOf}
+use Rattle.connection.specs.Send.{heardOf, movedOf, updatedOf, onData, ruleOf, goesOf, planOf, killsOf, sendDoorOf, sendLate, carried, sendDoor, sendAnswer, sendDone, sendKept, sendOf}
 use Rattle.connection.specs.Edges.{readingA, readingBCD, readingE, readingF, readingG, readingH, readingI}
-use Rattle.connection.specs.Promises.{SendMoves, NotifyMoves, ReceiveKeeps, KillKeeps, EdgesHold, EachCallPinned}
+use Rattle.connection.specs.Promises.{SendMoves, NotifyMoves, SendCountedOff, NotifyCountedOff, NotifyOffersPieces, ReadWithinAsked, ReceiveKeeps, KillKeeps, EdgesHold, EachCallPinned}
 use Rattle.connection.proofs.MovesLaws as moves
+use Rattle.connection.proofs.OfferLaws as offers
 
 pub send-moves : SendMoves
 send-moves = moves.send-moves
 
 pub notify-moves : NotifyMoves
 notify-moves = moves.notify-moves
+
+pub send-counted-off : SendCountedOff
+send-counted-off = offers.send-counted-off
+
+pub notify-counted-off : NotifyCountedOff
+notify-counted-off = offers.notify-counted-off
+
+pub notify-offers-pieces : NotifyOffersPieces
+notify-offers-pieces = offers.notify-offers-pieces
+
+pub read-within-asked : ReadWithinAsked
+read-within-asked = offers.read-within-asked
 
 pub receive-keeps : ReceiveKeeps
 receive-keeps = moves.receive-keeps
@@ -34,7 +47,7 @@ pub kill-keeps : KillKeeps
 kill-keeps = moves.kill-keeps
 
 pub edges-hold : EdgesHold
-unfolding when isDone whenDone isRingSize isThreshold isTimeout isClock isPacketLength isHeaderLength doorOf lateOf lowestOf copied peerAvailCredit peerNeedsCreditUpdate encoded decoded soundRecord soundOf heldFrom held recordAnswer runs pushDone okSettings soundConn soundOver quiet creditOf withState killedOf freshOf openAnswer peerInitOf nextStep spokenOf receivedOf headerOf recvDoor readsOf recvRefusal recvDone recvKept recvOf heardOf movedOf updatedOf onData ruleOf goesOf planOf killsOf sendRefusal carried takenBy overBy endsBy flushCount flushOver flushAnswer flushDone flushKept flushOf seenOf absorbed settledOf drainedOf notifyAnswer notifyDone notifyKept notifyOf clockAnswer hasExpiredOf sendAnswer sendDone sendKept sendOf readingA readingBCD readingE readingF readingG readingH readingI
+unfolding when isDone whenDone isRingSize isThreshold isTimeout isClock isPacketLength isHeaderLength doorOf lateOf lowestOf copied peerAvailCredit peerNeedsCreditUpdate encoded decoded soundRecord soundOf heldFrom held recordAnswer runs pushDone okSettings soundConn soundOver quiet creditOf withState killedOf freshOf openAnswer peerInitOf nextStep spokenOf receivedOf headerOf recvDoor readsOf recvRefusal recvDone recvKept recvOf heardOf movedOf updatedOf onData ruleOf goesOf planOf killsOf sendDoorOf sendLate carried sendDoor takenBy overBy endsBy flushCount flushOver flushAnswer flushDone flushKept flushOf seenOf absorbed settledOf drainedOf notifyDoor notifyAnswer notifyDone notifyKept notifyOf clockAnswer hasExpiredOf sendAnswer sendDone sendKept sendOf readingA readingBCD readingE readingF readingG readingH readingI
 edges-hold = record {
   a = (refl, (refl, tt));
   bcd = (refl, (refl, (refl, (refl, (refl, (refl, tt))))));
@@ -64,4 +77,14 @@ each-call-pinned = record {
   recv-pkt = by-equation _ _ _;
   send-pkt = by-equation _ _ _;
   notify = by-equation _ _ _;
+  send-door = by-equation _ _ _;
+  send-writes = by-equation _ _ _;
+  send-offered = by-equation _ _ _;
+  recv-door = by-equation _ _ _;
+  recv-asked = by-equation _ _ _;
+  notify-door = by-equation _ _ _;
+  notify-offered = by-equation _ _ _;
+  notify-offered-next = by-equation _ _ _;
+  raw-door = by-equation _ _ _;
+  raw-offered = by-equation _ _ _;
 }

@@ -1,7 +1,6 @@
 -- Laws of the raw send. Assumes nothing.
 use Prim.Native.Nat.{ℕ, _≤_}
 use mathlib.Core.Path.{_≡_, sym, ap, _∙_}
-use mathlib.Core.Bool.{Bool, false, not}
 use mathlib.Core.List.{List, _++_}
 use lib.Dec.{ltb}
 use native.Mathlib.Omega.{arith}
@@ -9,24 +8,21 @@ use lib.ListN.{length, take, drop}
 use lib.Seq.{length-take-le}
 use borrow.Author.Tests.{ltb-false}
 use Rattle.defs.specs.Answer.{told, isDone}
-use Rattle.defs.specs.Limits.{isPacketLength}
 use Rattle.defs.specs.Stream.{counted, stoppedBy}
-use Rattle.defs.specs.Ladder.{doorOf, lateOf, lowestOf}
+use Rattle.defs.specs.Ladder.{lateOf, lowestOf}
 use Rattle.defs.specs.Copying.{copied}
 use Rattle.defs.specs.declared.answer.Answer.{Answer}
 use Rattle.defs.specs.declared.answer.Answer.the-variants.{Done}
 use Rattle.defs.proofs.AnswerLaws.{NotDone, not-done, when-done, when-not-done}
 use Rattle.defs.proofs.LadderLaws.{lowest-passed, late-passed}
 use Rattle.defs.proofs.CopyLaws.{copied-fits}
-use Rattle.connection.specs.Record.{soundConn}
-use Rattle.connection.specs.Raw.{RawIn, RawLeft, rawCount, rawAnswer, rawDone, rawKept, rawOf}
+use Rattle.connection.specs.Raw.{RawIn, RawLeft, rawCount, rawDoor, rawAnswer, rawDone, rawKept, rawOf}
 
 -- the answer, put together as the code does
-pub raw-answer : (i : RawIn) (a l d t s : Answer) (p q : Bool) (n : ℕ) → a ≡ lowestOf l s → s ≡ stoppedBy (i .answers .first) → l ≡ lowestOf d t
-    → t ≡ lateOf (ltb (length (i .buf)) n) (ltb (length (i .out)) n) → d ≡ doorOf (not q) false false (not p) → p ≡ isPacketLength (length (i .buf))
-    → q ≡ soundConn (i .conn) → n ≡ counted (i .answers .first) → a ≡ rawAnswer i
+pub raw-answer : (i : RawIn) (a l d t s : Answer) (n : ℕ) → a ≡ lowestOf l s → s ≡ stoppedBy (i .answers .first) → l ≡ lowestOf d t
+    → t ≡ lateOf (ltb (length (i .buf)) n) (ltb (length (i .out)) n) → d ≡ rawDoor (i .conn) (length (i .buf)) → n ≡ counted (i .answers .first) → a ≡ rawAnswer i
 unfolding rawAnswer
-raw-answer i a l d t s p q n e f g h j k m o = rw (e, f, g, h, j, k, m, o)
+raw-answer i a l d t s n e f g h j k = rw (e, f, g, h, j, k)
 
 pub raw-kept : (i : RawIn) (a : Answer) → a ≡ rawAnswer i → NotDone a → _≡_ {A = RawLeft} (record { answer = told a; count = 0; out = i .out }) (rawOf i)
 unfolding rawOf rawKept

@@ -36,12 +36,16 @@ use Rattle.connection.specs.declared.receive.Row.{Row}
 use Rattle.connection.proofs.RecordLaws.{timeouts}
 
 -- the refusal, put together as the code does
-pub refusal-is : (c : VsockConnection) (hdr : ℕ) (present : Bool) (buf clock : ℕ) (a : ReadAnswer) (read : ℕ) (r d l : Answer) (s h k p t : Bool) (n m : ℕ)
-    → r ≡ lowestOf d l → l ≡ lateOf (t && (ltb m n || ltb read n)) false → d ≡ doorOf (not s) (not h) (not k) (present && not p)
-    → s ≡ soundConn c → h ≡ isHeaderLength hdr → k ≡ isClock clock → p ≡ isPacketLength buf → t ≡ readsOf c present → n ≡ readCounted a → m ≡ askedOf c buf
+pub door-is : (c : VsockConnection) (hdr : ℕ) (present : Bool) (buf clock : ℕ) (d : Answer) (s h k p : Bool) → d ≡ doorOf (not s) (not h) (not k) (present && not p)
+    → s ≡ soundConn c → h ≡ isHeaderLength hdr → k ≡ isClock clock → p ≡ isPacketLength buf → d ≡ recvDoor c hdr present buf clock
+unfolding recvDoor
+door-is c hdr present buf clock d s h k p e1 e2 e3 e4 e5 = rw (e1, e2, e3, e4, e5)
+
+pub refusal-is : (c : VsockConnection) (hdr : ℕ) (present : Bool) (buf clock : ℕ) (a : ReadAnswer) (read : ℕ) (r d l : Answer) (t : Bool) (n m : ℕ) → r ≡ lowestOf d l
+    → l ≡ lateOf (t && (ltb m n || ltb read n)) false → d ≡ recvDoor c hdr present buf clock → t ≡ readsOf c present → n ≡ readCounted a → m ≡ askedOf c buf
     → r ≡ recvRefusal c hdr present buf clock a read
-unfolding recvRefusal recvDoor
-refusal-is c hdr present buf clock a read r d l s h k p t n m e1 e2 e3 e4 e5 e6 e7 e8 e9 e10 = rw (e1, e2, e3, e4, e5, e6, e7, e8, e9, e10)
+unfolding recvRefusal
+refusal-is c hdr present buf clock a read r d l t n m e1 e2 e3 e4 e5 e6 = rw (e1, e2, e3, e4, e5, e6)
 
 -- ---- how much a step reads
 
@@ -89,6 +93,16 @@ within true asked n read k e l =
     let y = ltb-false read n (f .1) in
     (omega arith, omega arith)
 within false asked n read k e l = (omega arith, omega arith)
+
+-- what is read lies within what was asked
+pub asked-at-most : (i : RecvIn) → refusalOf i ≡ Done → saidBy i .count ≤ when (readsOf (i .conn) (i .present)) (askedOf (i .conn) (length (i .buf))) 0
+unfolding recvRefusal when
+asked-at-most i d = by (readsOf (i .conn) (i .present)) (late-passed _ _ (lowest-passed _ _ d .1) .answer-ok) (count-at-most i)
+  where
+    by : (reads : Bool) → reads && (ltb (askedOf (i .conn) (length (i .buf))) (readCounted (i .answer)) || ltb (length (i .read)) (readCounted (i .answer))) ≡ false
+        → saidBy i .count ≤ when reads (readCounted (i .answer)) 0 → saidBy i .count ≤ when reads (askedOf (i .conn) (length (i .buf))) 0
+    by true e l = within true _ _ _ _ e l .0
+    by false e l = l
 
 pub record Passed (i : RecvIn) : Type 0 where
   pub header : length (i .hdr) ≡ headerSize

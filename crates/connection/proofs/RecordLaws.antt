@@ -25,8 +25,11 @@ pub timeouts : (c : VsockConnection) → soundConn c ≡ true → Timely c
 unfolding soundConn
 timeouts c e = timely c (c .«tx_buf» .size) (both (soundRecord (c .«tx_buf»)) _ e .1)
 
+pub sound-over-ring : (c : VsockConnection) (n : ℕ) → soundOver c n ≡ true → soundOf (c .«tx_buf») n ≡ true
+unfolding soundOver
+sound-over-ring c n e = both (soundOf (c .«tx_buf») n) (okSettings (c .settings) (c .«tx_buf» .size)) e .0
+
 pub sound-over-says : (c : VsockConnection) (n : ℕ) → soundOver c n ≡ true → Sound (c .«tx_buf») n × Timely c
 unfolding soundOver
 sound-over-says c n e =
-    let b = both (soundOf (c .«tx_buf») n) (okSettings (c .settings) (c .«tx_buf» .size)) e in
-    (sound-says (c .«tx_buf») n (b .0), timely c (c .«tx_buf» .size) (b .1))
+    (sound-says (c .«tx_buf») n (sound-over-ring c n e), timely c (c .«tx_buf» .size) (both (soundOf (c .«tx_buf») n) _ e .1))

@@ -1,7 +1,6 @@
 -- Laws of `send_pkt`: where its bytes go, what a passed refusal says, and the ends of the call. Assumes nothing.
 use Prim.Native.Nat.{ℕ, _+_, _-_, _≤_, zero-le}
 use mathlib.Core.Path.{_≡_, refl, sym, ap, _∙_}
-use mathlib.Core.Logic.{⊎-elim}
 use mathlib.Core.Bool.{Bool, true, false, not, _&&_, _||_}
 use mathlib.Core.List.{List, _++_}
 use native.Mathlib.Omega.{arith}
@@ -12,13 +11,13 @@ use borrow.Author.Tests.{ltb-false, not-true, not-false}
 use Rattle.defs.specs.Choice.{when}
 use Rattle.defs.specs.Answer.{told, isDone}
 use Rattle.defs.specs.Limits.{maxPacket, isHeaderLength, isPacketLength}
-use Rattle.defs.specs.Ladder.{doorOf}
+use Rattle.defs.specs.Ladder.{doorOf, lowestOf}
 use Rattle.defs.specs.Copying.{copied}
 use Rattle.defs.specs.declared.answer.Answer.{Answer}
 use Rattle.defs.specs.declared.answer.Answer.the-variants.{Done}
-use Rattle.defs.proofs.Basics.{never, neither, true-or-false}
+use Rattle.defs.proofs.Basics.{never, neither}
 use Rattle.defs.proofs.ChoiceLaws.{when-true, when-false}
-use Rattle.defs.proofs.AnswerLaws.{NotDone, not-done, when-done, when-not-done}
+use Rattle.defs.proofs.AnswerLaws.{when-done, when-not-done}
 use Rattle.defs.proofs.LadderLaws.{lowest-passed, door-passed, late-passed}
 use Rattle.defs.proofs.LimitLaws.{clock-within, packet-length}
 use Rattle.defs.proofs.CopyLaws.{copied-fits}
@@ -31,7 +30,7 @@ use Rattle.txbuf.proofs.RecordLaws.{Sound}
 use Rattle.txbuf.proofs.PushLaws.{is-ready, push-is-done}
 use Rattle.connection.specs.State.{takes}
 use Rattle.connection.specs.Record.{soundOver}
-use Rattle.connection.specs.Send.{goesOf, planOf, killsOf, sendRefusal, Killable, Lingers, Carries, carried, SendIn, SendLeft, pktOf, sendPlan, sendAnswer, payload, sendKills, sendCarried, heardOf, ruleOf, sendDone, sendKept, sendOf}
+use Rattle.connection.specs.Send.{goesOf, planOf, killsOf, sendDoorOf, sendLate, sendDoor, sendDoorIn, Killable, Lingers, Carries, carried, SendIn, SendLeft, pktOf, sendPlan, sendAnswer, payload, sendKills, sendCarried, heardOf, ruleOf, sendDone, sendKept, sendOf}
 use Rattle.connection.specs.declared.record.VsockConnection.{VsockConnection}
 use Rattle.connection.specs.declared.send.SendPlan.{SendPlan}
 use Rattle.connection.proofs.RecordLaws.{sound-over-says}
@@ -85,11 +84,8 @@ pub record Passed (i : SendIn) : Type 0 where
   pub part : sendPlan i .len ≤ length (i .buf)
   pub room : sendPlan i .written ≤ length (i .out)
 
-abbrev pub refusalIn : SendIn → Answer
-refusalIn i = sendRefusal (soundOver (i .conn) (length (i .store))) (pktOf i) (i .present) (length (i .buf)) (i .clock) (sendPlan i) (length (i .out))
-
-pub passed : (i : SendIn) → refusalIn i ≡ Done → Passed i
-unfolding sendRefusal planOf goesOf
+pub passed : (i : SendIn) → sendAnswer i ≡ Done → Passed i
+unfolding sendAnswer sendDoor sendDoorOf sendLate planOf goesOf
 passed i d =
     let u = lowest-passed _ _ d in
     let p = door-passed _ _ _ _ (u .0) in
@@ -103,14 +99,6 @@ passed i d =
       part = b .0;
       room = ltb-false _ _ (l .room-ok);
     }
-
-pub answer-passed : (i : SendIn) → sendAnswer i ≡ Done → Passed i
-unfolding sendAnswer
-answer-passed i d =
-    ⊎-elim
-    (λ (t : isHeaderLength (length (i .hdr)) ≡ true). passed i (sym (when-true _ _ _ t) ∙ d))
-    (λ (t : isHeaderLength (length (i .hdr)) ≡ false). absurd (never (sym (door-passed _ true _ _ (sym (when-false _ _ _ t) ∙ d) .header-ok))))
-    (true-or-false (isHeaderLength (length (i .hdr))))
 
 -- what is kept has room in the ring
 room-left : (goes broken full : Bool) → goes && not (goes && (broken || full)) ≡ true → full ≡ false
@@ -141,44 +129,51 @@ rules i pkt p h s e f =
 
 -- ---- the ends of the call
 
+-- a header that isn't 44 bytes long is 2, whatever the later tests
+pub headless : (sound headed present : Bool) (pkt : VsockPacketHdr) (buf clock : ℕ) → headed ≡ false
+    → doorOf (not sound) true false false ≡ sendDoorOf sound headed pkt present buf clock
+unfolding sendDoorOf doorOf when
+headless true false present pkt buf clock e = refl
+headless false false present pkt buf clock e = refl
+headless sound true present pkt buf clock e = absurd (never (sym e))
+
+pub headless-refused : (sound : Bool) (a : Answer) → a ≡ doorOf (not sound) true false false → isDone a ≡ false
+unfolding doorOf when isDone
+headless-refused true a e = ap isDone e
+headless-refused false a e = ap isDone e
+
+pub send-kept : (i : SendIn) (a : Answer) → a ≡ sendAnswer i → isDone a ≡ false
+    → _≡_ {A = SendLeft} (record { answer = told a; conn = i .conn; store = i .store; out = i .out }) (sendOf i)
+unfolding sendOf sendKept
+send-kept i a e n =
+    ap (λ (t : Answer). record { answer = told t; conn = i .conn; store = i .store; out = i .out }) e
+    ∙ sym (when-not-done (sendAnswer i) _ _ (ap isDone (sym e) ∙ n))
+
 pub send-no-header : (i : SendIn) (a : Answer) (s : Bool) → a ≡ doorOf (not s) true false false → s ≡ soundOver (i .conn) (length (i .store))
     → isHeaderLength (length (i .hdr)) ≡ false
     → _≡_ {A = SendLeft} (record { answer = told a; conn = i .conn; store = i .store; out = i .out }) (sendOf i)
-unfolding sendOf sendKept sendAnswer isDone doorOf when
+unfolding sendAnswer sendDoor lowestOf
 send-no-header i a s e f h =
-    let x : a ≡ sendAnswer i = e ∙ ap (λ (t : Bool). doorOf (not t) true false false) f ∙ sym (when-false _ _ _ h) in
-    ap (λ (t : Answer). record { answer = told t; conn = i .conn; store = i .store; out = i .out }) x
-    ∙ sym (when-not-done (sendAnswer i) _ _ (ap isDone (when-false _ _ _ h) ∙ refused (soundOver (i .conn) (length (i .store)))))
-  where
-    refused : (t : Bool) → isDone (doorOf (not t) true false false) ≡ false
-    refused true = refl
-    refused false = refl
-
-pub send-kept : (i : SendIn) (a : Answer) → a ≡ refusalIn i → isHeaderLength (length (i .hdr)) ≡ true → NotDone a
-    → _≡_ {A = SendLeft} (record { answer = told a; conn = i .conn; store = i .store; out = i .out }) (sendOf i)
-unfolding sendOf sendKept sendAnswer
-send-kept i a e h k =
-    let x : a ≡ sendAnswer i = e ∙ sym (when-true _ _ _ h) in
-    ap (λ (t : Answer). record { answer = told t; conn = i .conn; store = i .store; out = i .out }) x
-    ∙ sym (when-not-done (sendAnswer i) _ _ (ap isDone (sym x) ∙ not-done a k))
+    let n = headless-refused s a e in
+    let d : a ≡ sendDoorIn i = e ∙ headless s _ (i .present) (pktOf i) (length (i .buf)) (i .clock) h ∙ ap (λ (t : Bool). sendDoorOf t (isHeaderLength (length (i .hdr))) (pktOf i) (i .present) (length (i .buf)) (i .clock)) f in
+    send-kept i a (d ∙ sym (when-not-done (sendDoorIn i) _ _ (ap isDone (sym d) ∙ n))) n
 
 -- what is known of a packet past its header, as the code finds it: the header's, the plan of it, and the refusal
 pub record Found (i : SendIn) (pkt : VsockPacketHdr) (p : SendPlan) (a : Answer) : Type 0 where
-  pub whole : isHeaderLength (length (i .hdr)) ≡ true
   pub header : pkt ≡ pktOf i
   pub plan : p ≡ sendPlan i
-  pub refusal : a ≡ refusalIn i
+  pub refusal : a ≡ sendAnswer i
 
-pub found : (i : SendIn) (pkt : VsockPacketHdr) (p : SendPlan) (a : Answer) (s : Bool) → (isHeaderLength (length (i .hdr)) ≡ true) × (pkt ≡ pktOf i)
+pub found : (i : SendIn) (pkt : VsockPacketHdr) (p : SendPlan) (a d l : Answer) (s : Bool) → (isHeaderLength (length (i .hdr)) ≡ true) × (pkt ≡ pktOf i)
     → p ≡ planOf (i .conn) pkt (i .present) (i .answers .first) → s ≡ soundOver (i .conn) (length (i .store))
-    → a ≡ sendRefusal s pkt (i .present) (length (i .buf)) (i .clock) p (length (i .out)) → Found i pkt p a
-found i pkt p a s h q e r =
+    → d ≡ sendDoorOf s true pkt (i .present) (length (i .buf)) (i .clock) → l ≡ sendLate p (length (i .out)) → a ≡ lowestOf d l → Found i pkt p a
+unfolding sendAnswer sendDoor
+found i pkt p a d l s h q e door late r =
     let x : p ≡ sendPlan i = q ∙ ap (λ (z : VsockPacketHdr). planOf (i .conn) z (i .present) (i .answers .first)) (h .1) in
     record {
-      whole = h .0;
       header = h .1;
       plan = x;
-      refusal = r ∙ rw (e, h .1, x);
+      refusal = r ∙ rw (door, late, e, h .1, x, h .0);
     }
 
 pub send-left : (i : SendIn) (pkt : VsockPacketHdr) (p : SendPlan) (a : Answer) (k : Bool) (ring : TxBuf) (heard c : VsockConnection) (x y : List ℕ) → Found i pkt p a → a ≡ Done
@@ -194,4 +189,4 @@ send-left i pkt p a k ring heard c x y f d e g h j m =
     let r : ring ≡ sendCarried i .ring = ap (λ (o : PushLeft). o .ring) q in
     let s : x ≡ sendCarried i .store = ap (λ (o : PushLeft). o .store) q in
     rw (d, m, h, s, r, j, z, f .plan, f .header)
-    (sym (when-done (sendAnswer i) (sendDone i) (sendKept i) (when-true _ _ _ (f .whole) ∙ sym (f .refusal) ∙ d)))
+    (sym (when-done (sendAnswer i) (sendDone i) (sendKept i) (sym (f .refusal) ∙ d)))

@@ -6,6 +6,7 @@ pub mod Raw
 pub mod Receive
 pub mod Send
 pub mod Notify
+pub mod Offer
 pub mod Moves
 pub mod Edges
 pub mod Promises

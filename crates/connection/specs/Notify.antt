@@ -60,9 +60,13 @@ flushIn i = record { ring = i .conn .«tx_buf»; store = i .store; answers = i .
 abbrev pub flushed : NotifyIn → FlushLeft
 flushed i = flushOf (flushIn i)
 
--- 01's table: 1, then 5 and 6 where a flush is due
+-- THE DOOR of `notify`: 01's table, 1, of a record over a storage of so many bytes
+unfoldable pub notifyDoor : VsockConnection → ℕ → Answer
+notifyDoor c storage = recordAnswer (soundOver c storage)
+
+-- then 5 and 6 where a flush is due
 unfoldable pub notifyAnswer : NotifyIn → Answer
-notifyAnswer i = lowestOf (recordAnswer (soundOver (i .conn) (length (i .store)))) (when (due i) (absorbed (flushAnswer (flushIn i))) Done)
+notifyAnswer i = lowestOf (notifyDoor (i .conn) (length (i .store))) (when (due i) (absorbed (flushAnswer (flushIn i))) Done)
 
 unfoldable pub notifyDone : NotifyIn → NotifyLeft
 notifyDone i = record {

@@ -1,19 +1,21 @@
 -- What this crate promises, in statements only; proofs/Promises has a line for each. Assumes nothing.
-use Prim.Native.Nat.{ℕ}
+use Prim.Native.Nat.{ℕ, _≤_}
 use mathlib.Core.Path.{_≡_}
 use mathlib.Core.Bool.{Bool}
-use mathlib.Core.List.{[]}
-use lib.ListN.{take}
+use mathlib.Core.List.{List, [], _++_}
+use lib.ListN.{length, take}
 use Rattle.defs.specs.Pinned.{Pinned}
 use Rattle.defs.specs.Reading.{Hold}
+use Rattle.defs.specs.declared.answer.Answer.{Answer}
 use Rattle.txbuf.specs.Record.{held}
 use Rattle.connection.specs.Record.{soundConn, soundOver, quiet, creditOf}
 use Rattle.connection.specs.Open.{Opening, OpenLeft, PeerInitSays, LocalInitSays}
 use Rattle.connection.specs.Look.{FlagLeft, PendingSays, Timed, WillExpireSays, HasExpiredSays, ExpiryLeft, ExpirySays, StateLeft, StateSays, EvSetLeft, EvSetSays, KillSays}
-use Rattle.connection.specs.Raw.{RawIn, RawLeft, RawSays}
-use Rattle.connection.specs.Receive.{RecvIn, RecvLeft, RecvSays}
-use Rattle.connection.specs.Send.{SendIn, SendLeft, SendSays, accepted}
-use Rattle.connection.specs.Notify.{NotifyIn, NotifyLeft, NotifySays}
+use Rattle.connection.specs.Raw.{rawDoor, RawIn, RawLeft, RawSays}
+use Rattle.connection.specs.Receive.{recvDoor, RecvIn, RecvLeft, RecvSays}
+use Rattle.connection.specs.Send.{sendDoor, SendIn, SendLeft, SendSays, accepted}
+use Rattle.connection.specs.Notify.{notifyDoor, NotifyIn, NotifyLeft, NotifySays}
+use Rattle.connection.specs.Offer.{sendWrites, sendOffered, sendOffers, AskedLeft, recvAsked, recvTaken, recvAsks, notifyOffered, notifyOffers, notifyFirst, notifySecond, rawOffered}
 use Rattle.connection.specs.Moves.{Numbers, account, sendTaken, notifyTaken, Moved}
 use Rattle.connection.specs.Edges.{readingA, readingBCD, readingE, readingF, readingG, readingH, readingI}
 use Rattle.connection.specs.declared.record.VsockConnection.{VsockConnection}
@@ -29,6 +31,21 @@ abbrev pub NotifyMoves : Type 0
 NotifyMoves =
     (i : NotifyIn) (left : NotifyLeft) → Numbers (i .conn) → NotifySays i left
     → Moved (i .conn) (left .conn) (held (i .conn .«tx_buf») (i .store)) (held (left .conn .«tx_buf») (i .store)) (take (notifyTaken i) (left .out)) []
+
+-- what stands at the front of the outgoing buffer is counted off what the call offers
+abbrev pub SendCountedOff : Type 0
+SendCountedOff = (i : SendIn) (left : SendLeft) → SendSays i left → take (sendTaken i) (left .out) ≡ take (sendTaken i) (sendOffers i)
+
+abbrev pub NotifyCountedOff : Type 0
+NotifyCountedOff = (i : NotifyIn) (left : NotifyLeft) → Numbers (i .conn) → NotifySays i left → take (notifyTaken i) (left .out) ≡ take (notifyTaken i) (notifyOffers i)
+
+-- the two pieces that an event offers are all that it offers
+abbrev pub NotifyOffersPieces : Type 0
+NotifyOffersPieces = (c : VsockConnection) (writable : Bool) (store : List ℕ) → Numbers c → notifyFirst c writable store ++ notifySecond c writable store ≡ notifyOffered c writable store
+
+-- no more is read than was asked for
+abbrev pub ReadWithinAsked : Type 0
+ReadWithinAsked = (i : RecvIn) → recvTaken i ≤ recvAsks i .count
 
 -- receiving and killing leave ring, count and settings
 abbrev pub ReceiveKeeps : Type 0
@@ -46,6 +63,15 @@ pub record EdgesHold : Type 0 where
   pub g : Hold readingG
   pub h : Hold readingH
   pub i : Hold readingI
+
+-- what a call is given besides the stream's answers
+pub record Given : Type 0 where
+  pub conn : VsockConnection
+  pub store : List ℕ
+  pub hdr : List ℕ
+  pub present : Bool
+  pub buf : List ℕ
+  pub clock : ℕ
 
 -- every public call: any two outcomes that meet its contract are identical
 pub record EachCallPinned : Type 0 where
@@ -66,3 +92,13 @@ pub record EachCallPinned : Type 0 where
   pub recv-pkt : Pinned RecvIn RecvLeft RecvSays
   pub send-pkt : Pinned SendIn SendLeft SendSays
   pub notify : Pinned NotifyIn NotifyLeft NotifySays
+  pub send-door : Pinned Given Answer (λ g r. r ≡ sendDoor (g .conn) (length (g .store)) (g .hdr) (g .present) (length (g .buf)) (g .clock))
+  pub send-writes : Pinned Given Bool (λ g r. r ≡ sendWrites (g .conn) (length (g .store)) (g .hdr) (g .present) (length (g .buf)) (g .clock))
+  pub send-offered : Pinned Given (List ℕ) (λ g r. r ≡ sendOffered (g .conn) (length (g .store)) (g .hdr) (g .present) (g .buf) (g .clock))
+  pub recv-door : Pinned Given Answer (λ g r. r ≡ recvDoor (g .conn) (length (g .hdr)) (g .present) (length (g .buf)) (g .clock))
+  pub recv-asked : Pinned Given AskedLeft (λ g r. r ≡ recvAsked (g .conn) (length (g .hdr)) (g .present) (length (g .buf)) (g .clock))
+  pub notify-door : Pinned Given Answer (λ g r. r ≡ notifyDoor (g .conn) (length (g .store)))
+  pub notify-offered : Pinned (Given × Bool) (List ℕ) (λ g r. r ≡ notifyFirst (g .0 .conn) (g .1) (g .0 .store))
+  pub notify-offered-next : Pinned (Given × Bool) (List ℕ) (λ g r. r ≡ notifySecond (g .0 .conn) (g .1) (g .0 .store))
+  pub raw-door : Pinned Given Answer (λ g r. r ≡ rawDoor (g .conn) (length (g .buf)))
+  pub raw-offered : Pinned Given (List ℕ) (λ g r. r ≡ rawOffered (g .conn) (g .buf))

@@ -29,11 +29,15 @@ pub record RawLeft : Type 0 where
 abbrev pub rawCount : RawIn → ℕ
 rawCount i = counted (i .answers .first)
 
--- 1 and 4, then 5 and 6, then 10 by the one write
+-- THE DOOR of `send_bytes_raw`: 01's table, 1 and 4
+unfoldable pub rawDoor : VsockConnection → ℕ → Answer
+rawDoor c buf = doorOf (not (soundConn c)) false false (not (isPacketLength buf))
+
+-- then 5 and 6, then 10 by the one write
 unfoldable pub rawAnswer : RawIn → Answer
 rawAnswer i =
     lowestOf
-    (lowestOf (doorOf (not (soundConn (i .conn))) false false (not (isPacketLength (length (i .buf)))))
+    (lowestOf (rawDoor (i .conn) (length (i .buf)))
     (lateOf (ltb (length (i .buf)) (rawCount i)) (ltb (length (i .out)) (rawCount i))))
     (stoppedBy (i .answers .first))
 

@@ -79,6 +79,14 @@ is answer op flags count tells ends after arms = record {
   arms = arms;
 }
 
+-- a row that carries no data and leaves state and timer
+abbrev pub plainRow : Answer → ℕ → Bool → Bool → Row
+plainRow answer op tells ends = is answer op 0 0 tells ends Same Keep
+
+-- one that moves state or timer, and tells the guest nothing
+abbrev pub turningRow : ℕ → After → Arms → Row
+turningRow op after arms = is Done op 0 0 false false after arms
+
 -- step, then answer, op, flags, len, whether last-told is updated, whether a pending update ends, state, timer
 abbrev pub rowOf : RxStep → Row
 rowOf Rst = is Done opRst 0 0 false false Same Keep
@@ -181,7 +189,7 @@ pub record RecvLeft : Type 0 where
   pub hdr : List ℕ
   pub buf : List ℕ
 
--- refusals 1 to 4; a buffer that is absent has no length
+-- THE DOOR of `recv_pkt`: 01's table, 1 to 4; a buffer that is absent has no length
 unfoldable pub recvDoor : VsockConnection → ℕ → Bool → ℕ → ℕ → Answer
 recvDoor c hdr present buf clock =
     doorOf (not (soundConn c)) (not (isHeaderLength hdr)) (not (isClock clock)) (present && not (isPacketLength buf))

@@ -138,12 +138,17 @@ planOf c pkt present a = record {
 unfoldable pub killsOf : VsockConnection → SendPlan → Bool
 killsOf c p = p .goes && (p .broken || ltb (c .«tx_buf» .size) (usedOf (c .«tx_buf») + (p .len - p .written)))
 
--- 1 to 4 (a header of another length is 2 before that), then 5 and 6
-unfoldable pub sendRefusal : Bool → VsockPacketHdr → Bool → ℕ → ℕ → SendPlan → ℕ → Answer
-sendRefusal sound pkt present buf clock p room =
-    lowestOf
-    (doorOf (not sound) false (not (isClock clock)) (present && (not (isPacketLength buf) || eqb (pkt .op) opRw && ltb buf (pkt .len))))
-    (lateOf (ltb (p .len) (p .written)) (ltb room (p .written)))
+-- 4: a packet over 65,536 bytes; or, in any state, op RW with `len` over its size
+abbrev tooLong : VsockPacketHdr → ℕ → Bool
+tooLong pkt buf = not (isPacketLength buf) || eqb (pkt .op) opRw && ltb buf (pkt .len)
+
+-- 1 to 4, by whether the record is sound and the header 44 bytes long
+unfoldable pub sendDoorOf : Bool → Bool → VsockPacketHdr → Bool → ℕ → ℕ → Answer
+sendDoorOf sound headed pkt present buf clock = doorOf (not sound) (not headed) (not (isClock clock)) (present && tooLong pkt buf)
+
+-- 5: the write's count is over what it offered; 6: or over the outgoing buffer
+unfoldable pub sendLate : SendPlan → ℕ → Answer
+sendLate p room = lateOf (ltb (p .len) (p .written)) (ltb room (p .written))
 
 -- what the sums and parts within need
 abbrev pub Killable : SendPlan → Type 0
@@ -185,12 +190,16 @@ pktOf i = decoded (i .hdr)
 abbrev pub sendPlan : SendIn → SendPlan
 sendPlan i = planOf (i .conn) (pktOf i) (i .present) (i .answers .first)
 
--- 01's table, 1 to 6, in one ladder: a header that isn't 44 bytes long is 2, whatever the later tests
+-- THE DOOR of `send_pkt`: 01's table, 1 to 4, of a record over a storage of so many bytes, a header, a buffer of so many and a clock
+unfoldable pub sendDoor : VsockConnection → ℕ → List ℕ → Bool → ℕ → ℕ → Answer
+sendDoor c storage hdr present buf clock = sendDoorOf (soundOver c storage) (isHeaderLength (length hdr)) (decoded hdr) present buf clock
+
+abbrev pub sendDoorIn : SendIn → Answer
+sendDoorIn i = sendDoor (i .conn) (length (i .store)) (i .hdr) (i .present) (length (i .buf)) (i .clock)
+
+-- 01's table, 1 to 6
 unfoldable pub sendAnswer : SendIn → Answer
-sendAnswer i =
-    when (isHeaderLength (length (i .hdr)))
-    (sendRefusal (soundOver (i .conn) (length (i .store))) (pktOf i) (i .present) (length (i .buf)) (i .clock) (sendPlan i) (length (i .out)))
-    (doorOf (not (soundOver (i .conn) (length (i .store)))) true false false)
+sendAnswer i = lowestOf (sendDoorIn i) (sendLate (sendPlan i) (length (i .out)))
 
 -- the bytes that the packet brings, none where it brings no data
 abbrev pub payload : SendIn → List ℕ

@@ -7,6 +7,7 @@
 // lent; the stream's answers and the clock are handed in.
 mod look;
 mod notify;
+mod offer;
 mod open;
 mod raw;
 mod receive;
@@ -18,6 +19,7 @@ pub use look::EvSet;
 pub use look::Expiry;
 pub use look::Flag;
 pub use look::State;
+pub use offer::Asked;
 pub use raw::RawSent;
 pub use receive::After;
 pub use receive::Arms;

@@ -2,9 +2,10 @@
 // an out-event flushes the ring.
 ghost use mathlib.Core.Path.{_≡_};
 ghost use Prim.Native.Nat.{_≤_};
+ghost use lib.ListN.{length};
 ghost use Rattle.defs.specs.Answer.{told};
 ghost use Rattle.defs.specs.Limits.{maxRing};
-ghost use Rattle.connection.specs.Notify.{seenOf, absorbed, settledOf, drainedOf, NotifyIn, NotifyLeft, NotifySays};
+ghost use Rattle.connection.specs.Notify.{seenOf, absorbed, notifyDoor, settledOf, drainedOf, NotifyIn, NotifyLeft, NotifySays};
 use crate::record::Outcome;
 use crate::record::VsockConnection;
 use crate::record::is_quiet;
@@ -21,6 +22,14 @@ use defs::StreamAnswers;
 use txbuf::TxBuf;
 
 impl VsockConnection {
+    // What an event answers of 1 to 4.
+    pub fn notify_door(self, storage: &[u8]) -> Answer
+        ensures { λ r. ⌜ r ≡ notifyDoor self (length (now (storage .entry))) ⌝ }
+    {
+        let sound = is_sound_over(self, storage.len());
+        defs::door(!sound, false, false, false)
+    }
+
     // Takes the stream's events. A flush is due on an out-event unless the ring is empty; what the
     // stream takes of it stands at the front of `out`.
     pub fn notify(
@@ -33,8 +42,7 @@ impl VsockConnection {
     ) -> Outcome
         ensures { λ r. ⌜ NotifySays (record { conn = self; readable = readable; writable = writable; store = now (storage .entry); answers = answers; out = now (out .entry) }) (record { answer = told (r .answer); conn = r .conn; out = now (out .exit) }) ⌝ }
     {
-        let sound = is_sound_over(self, storage.len());
-        let answer = defs::door(!sound, false, false, false);
+        let answer = self.notify_door(storage);
         let Answer::Done = answer else {
             return Outcome { answer, conn: self };
         };

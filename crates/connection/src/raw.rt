@@ -1,8 +1,9 @@
 // The raw send: straight to the stream, past ring and flow control. No account of it is kept.
 ghost use mathlib.Core.Path.{_≡_};
+ghost use lib.ListN.{length};
 ghost use Rattle.defs.specs.Answer.{told};
 ghost use Rattle.defs.specs.Stream.{counted};
-ghost use Rattle.connection.specs.Raw.{RawIn, RawLeft, RawSays};
+ghost use Rattle.connection.specs.Raw.{rawDoor, RawIn, RawLeft, RawSays};
 use crate::record::VsockConnection;
 use crate::record::is_sound;
 use defs::Answer;
@@ -16,18 +17,21 @@ pub struct RawSent {
 }
 
 impl VsockConnection {
+    // What the raw send of `buf` answers of 1 to 4.
+    pub fn raw_door(self, buf: &[u8]) -> Answer
+        ensures { λ r. ⌜ r ≡ rawDoor self (length (now (buf .entry))) ⌝ }
+    {
+        let short = limits::is_packet_length(buf.len());
+        defs::door(!is_sound(self), false, false, !short)
+    }
+
     // One write of `buf`: its front, as much as the stream took, goes to the front of `out`.
     pub fn send_bytes_raw(self, buf: &[u8], answers: StreamAnswers, out: &mut [u8]) -> RawSent
         ensures { λ r. ⌜ RawSays (record { conn = self; buf = now (buf .entry); answers = answers; out = now (out .entry) }) (record { answer = told (r .answer); count = r .count; out = now (out .exit) }) ⌝ }
     {
         let first = answers.first;
         let count = count_of(first);
-        let door = defs::door(
-            !is_sound(self),
-            false,
-            false,
-            !limits::is_packet_length(buf.len()),
-        );
+        let door = self.raw_door(buf);
         let late = defs::late(buf.len() < count, out.len() < count);
         let answer = defs::lowest(defs::lowest(door, late), defs::stopped_by(first));
         let Answer::Done = answer else {

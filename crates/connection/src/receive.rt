@@ -8,7 +8,7 @@ ghost use Rattle.defs.specs.Answer.{told};
 ghost use Rattle.defs.specs.Choice.{when};
 ghost use Rattle.defs.specs.Limits.{maxPacket, maxClock, maxTimeout};
 ghost use Rattle.defs.specs.Stream.{readCounted};
-ghost use Rattle.connection.specs.Receive.{isEnd, readStep, dataStep, updateStep, rxStep, nextStep, rowOf, afterwards, armed, leftOf, spokenOf, Receivable, receivedOf, headerOf, readsOf, recvRefusal, later, RecvIn, RecvLeft, RecvSays};
+ghost use Rattle.connection.specs.Receive.{isEnd, readStep, dataStep, updateStep, rxStep, nextStep, plainRow, turningRow, rowOf, afterwards, armed, leftOf, spokenOf, Receivable, receivedOf, headerOf, readsOf, recvDoor, recvRefusal, later, RecvIn, RecvLeft, RecvSays};
 use crate::record::Outcome;
 use crate::record::PendingRxSet;
 use crate::record::Timer;
@@ -124,16 +124,28 @@ fn recv_refusal(
 ) -> Answer
     ensures { λ r. ⌜ r ≡ recvRefusal conn hdr present buf «now_ms» answer read ⌝ }
 {
-    let door = defs::door(
-        !is_sound(conn),
-        !limits::is_header_length(hdr),
-        !limits::is_clock(now_ms),
-        present & !limits::is_packet_length(buf),
-    );
+    let door = door_of(conn, hdr, present, buf, now_ms);
     let count = read_count(answer);
     let asked = defs::smaller(buf, credit(conn) as usize);
     let over = reads(conn, present) & ((asked < count) | (read < count));
     defs::lowest(door, defs::late(over, false))
+}
+
+pub(crate) fn door_of(
+    conn: VsockConnection,
+    hdr: usize,
+    present: bool,
+    buf: usize,
+    now_ms: u64,
+) -> Answer
+    ensures { λ r. ⌜ r ≡ recvDoor conn hdr present buf «now_ms» ⌝ }
+{
+    defs::door(
+        !is_sound(conn),
+        !limits::is_header_length(hdr),
+        !limits::is_clock(now_ms),
+        present & !limits::is_packet_length(buf),
+    )
 }
 
 // How many bytes the answer to a read brings.
@@ -147,7 +159,7 @@ fn read_count(answer: ReadAnswer) -> usize
 }
 
 // Whether this turn reads from the stream.
-fn reads(conn: VsockConnection, present: bool) -> bool
+pub(crate) fn reads(conn: VsockConnection, present: bool) -> bool
     ensures { λ r. ⌜ r ≡ readsOf conn present ⌝ }
 {
     let p = conn.pending_rx;
@@ -240,116 +252,72 @@ fn row_of(step: RxStep) -> Row
     ensures { λ r. ⌜ r ≡ rowOf step ⌝ }
 {
     match step {
-        RxStep::Rst => Row {
-            answer: Answer::Done,
-            op: uapi::VSOCK_OP_RST,
-            flags: 0,
-            count: 0,
-            tells: false,
-            ends: false,
-            after: After::Same,
-            arms: Arms::Keep,
-        },
-        RxStep::Response => Row {
-            answer: Answer::Done,
-            op: uapi::VSOCK_OP_RESPONSE,
-            flags: 0,
-            count: 0,
-            tells: false,
-            ends: false,
-            after: After::Opens,
-            arms: Arms::Keep,
-        },
-        RxStep::Request => Row {
-            answer: Answer::Done,
-            op: uapi::VSOCK_OP_REQUEST,
-            flags: 0,
-            count: 0,
-            tells: false,
-            ends: false,
-            after: After::Same,
-            arms: Arms::Wait,
-        },
-        RxStep::Refuse => Row {
-            answer: Answer::Done,
-            op: uapi::VSOCK_OP_RST,
-            flags: 0,
-            count: 0,
-            tells: false,
-            ends: false,
-            after: After::Same,
-            arms: Arms::Keep,
-        },
-        RxStep::AskCredit => Row {
-            answer: Answer::Done,
-            op: uapi::VSOCK_OP_CREDIT_REQUEST,
-            flags: 0,
-            count: 0,
-            tells: true,
-            ends: false,
-            after: After::Same,
-            arms: Arms::Keep,
-        },
-        RxStep::NoBuffer => Row {
-            answer: Answer::PktBufMissing,
-            op: 0,
-            flags: 0,
-            count: 0,
-            tells: false,
-            ends: false,
-            after: After::Same,
-            arms: Arms::Keep,
-        },
-        RxStep::Data(count) => Row {
-            answer: Answer::Done,
-            op: uapi::VSOCK_OP_RW,
-            flags: 0,
-            count,
-            tells: true,
-            ends: false,
-            after: After::Same,
-            arms: Arms::Keep,
-        },
-        RxStep::Close => Row {
-            answer: Answer::Done,
-            op: uapi::VSOCK_OP_SHUTDOWN,
-            flags: uapi::VSOCK_FLAGS_SHUTDOWN_RCV + uapi::VSOCK_FLAGS_SHUTDOWN_SEND,
-            count: 0,
-            tells: true,
-            ends: false,
-            after: After::Closes,
-            arms: Arms::Linger,
-        },
-        RxStep::Fail => Row {
-            answer: Answer::Done,
-            op: uapi::VSOCK_OP_RST,
-            flags: 0,
-            count: 0,
-            tells: true,
-            ends: false,
-            after: After::Same,
-            arms: Arms::Keep,
-        },
-        RxStep::Update => Row {
-            answer: Answer::Done,
-            op: uapi::VSOCK_OP_CREDIT_UPDATE,
-            flags: 0,
-            count: 0,
-            tells: true,
-            ends: true,
-            after: After::Same,
-            arms: Arms::Keep,
-        },
-        RxStep::Nothing => Row {
-            answer: Answer::NoData,
-            op: 0,
-            flags: 0,
-            count: 0,
-            tells: false,
-            ends: true,
-            after: After::Same,
-            arms: Arms::Keep,
-        },
+        RxStep::Rst => plain(Answer::Done, uapi::VSOCK_OP_RST, false, false),
+        RxStep::Response => turning(uapi::VSOCK_OP_RESPONSE, After::Opens, Arms::Keep),
+        RxStep::Request => turning(uapi::VSOCK_OP_REQUEST, After::Same, Arms::Wait),
+        RxStep::Refuse => plain(Answer::Done, uapi::VSOCK_OP_RST, false, false),
+        RxStep::AskCredit => plain(Answer::Done, uapi::VSOCK_OP_CREDIT_REQUEST, true, false),
+        RxStep::NoBuffer => plain(Answer::PktBufMissing, 0, false, false),
+        RxStep::Data(count) => data_row(count),
+        RxStep::Close => close_row(),
+        RxStep::Fail => plain(Answer::Done, uapi::VSOCK_OP_RST, true, false),
+        RxStep::Update => plain(Answer::Done, uapi::VSOCK_OP_CREDIT_UPDATE, true, true),
+        RxStep::Nothing => plain(Answer::NoData, 0, false, true),
+    }
+}
+
+// A row that carries no data and leaves state and timer.
+fn plain(answer: Answer, op: u16, tells: bool, ends: bool) -> Row
+    ensures { λ r. ⌜ r ≡ plainRow answer op tells ends ⌝ }
+{
+    Row {
+        answer,
+        op,
+        flags: 0,
+        count: 0,
+        tells,
+        ends,
+        after: After::Same,
+        arms: Arms::Keep,
+    }
+}
+
+// One that moves state or timer, and tells the guest nothing.
+fn turning(op: u16, after: After, arms: Arms) -> Row
+    ensures { λ r. ⌜ r ≡ turningRow op after arms ⌝ }
+{
+    Row {
+        answer: Answer::Done,
+        op,
+        flags: 0,
+        count: 0,
+        tells: false,
+        ends: false,
+        after,
+        arms,
+    }
+}
+
+fn data_row(count: usize) -> Row
+    ensures { λ r. ⌜ r ≡ rowOf (RxStep.Data count) ⌝ }
+{
+    let mut row = plain(Answer::Done, uapi::VSOCK_OP_RW, true, false);
+    row.count = count;
+    row
+}
+
+fn close_row() -> Row
+    ensures { λ r. ⌜ r ≡ rowOf RxStep.Close ⌝ }
+{
+    Row {
+        answer: Answer::Done,
+        op: uapi::VSOCK_OP_SHUTDOWN,
+        flags: uapi::VSOCK_FLAGS_SHUTDOWN_RCV + uapi::VSOCK_FLAGS_SHUTDOWN_SEND,
+        count: 0,
+        tells: true,
+        ends: false,
+        after: After::Closes,
+        arms: Arms::Linger,
     }
 }
 

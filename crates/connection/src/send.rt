@@ -3,6 +3,7 @@
 // First it is planned what data goes where, in numbers alone; then the refusals are decided; then
 // the rule makes the new record, and one function touches bytes.
 ghost use mathlib.Core.Path.{_≡_};
+ghost use mathlib.Core.Bool.{true};
 ghost use mathlib.Core.List.{_++_};
 ghost use Prim.Native.Nat.{_≤_};
 ghost use lib.ListN.{length, take, drop};
@@ -11,7 +12,7 @@ ghost use Rattle.defs.specs.Answer.{told};
 ghost use Rattle.defs.specs.Limits.{maxRing, maxPacket, maxClock, maxTimeout};
 ghost use Rattle.txbuf.specs.Push.{PushLeft};
 ghost use Rattle.connection.specs.Receive.{later};
-ghost use Rattle.connection.specs.Send.{failed, recvOff, sendOff, heardOf, movedOf, updatedOf, onResponse, onShutdown, onCreditRequest, onData, ruleOf, goesOf, planOf, killsOf, sendRefusal, Lingers, Killable, carried, Carries, SendIn, SendLeft, SendSays};
+ghost use Rattle.connection.specs.Send.{failed, recvOff, sendOff, heardOf, movedOf, updatedOf, onResponse, onShutdown, onCreditRequest, onData, ruleOf, goesOf, planOf, killsOf, sendDoorOf, sendLate, Lingers, Killable, carried, Carries, SendIn, SendLeft, SendSays};
 use crate::raw::count_of;
 use crate::receive::later_by;
 use crate::record::Outcome;
@@ -70,7 +71,8 @@ impl VsockConnection {
         };
         let first = answers.first;
         let plan = plan_send(self, pkt, present, first);
-        let answer = send_refusal(sound, pkt, present, buf.len(), now_ms, plan, out.len());
+        let door = door_past_header(sound, pkt, present, buf.len(), now_ms);
+        let answer = defs::lowest(door, late(plan, out.len()));
         let Answer::Done = answer else {
             return Outcome { answer, conn: self };
         };
@@ -115,14 +117,14 @@ fn plan_send(
     }
 }
 
-fn goes(conn: VsockConnection, op: u16, present: bool) -> bool
+pub(crate) fn goes(conn: VsockConnection, op: u16, present: bool) -> bool
     ensures { λ r. ⌜ r ≡ goesOf conn op present ⌝ }
 {
     let state = conn.state;
     takes(state) & present & (op == uapi::VSOCK_OP_RW)
 }
 
-fn choose(test: bool, count: usize) -> usize
+pub(crate) fn choose(test: bool, count: usize) -> usize
     ensures { λ r. ⌜ r ≡ when test count 0 ⌝ }
 {
     if test { count } else { 0 }
@@ -138,26 +140,27 @@ pub(crate) fn has_failed(answer: StreamAnswer) -> bool
     }
 }
 
-// 1 to 4, then 5 and 6. `len` is held to the buffer in any state.
-fn send_refusal(
+// 1 to 4, of a header that was decoded. `len` is held to the buffer in any state.
+pub(crate) fn door_past_header(
     sound: bool,
     pkt: VsockPacketHdr,
     present: bool,
     buf: usize,
     now_ms: u64,
-    plan: SendPlan,
-    room: usize,
 ) -> Answer
-    ensures { λ r. ⌜ r ≡ sendRefusal sound pkt present buf «now_ms» plan room ⌝ }
+    ensures { λ r. ⌜ r ≡ sendDoorOf sound true pkt present buf «now_ms» ⌝ }
 {
     let rw = pkt.op == uapi::VSOCK_OP_RW;
     let cut = rw & (buf < pkt.len as usize);
     let long = present & (!limits::is_packet_length(buf) | cut);
-    let door = defs::door(!sound, false, !limits::is_clock(now_ms), long);
-    defs::lowest(
-        door,
-        defs::late(plan.len < plan.written, room < plan.written),
-    )
+    defs::door(!sound, false, !limits::is_clock(now_ms), long)
+}
+
+// 5 and 6.
+fn late(plan: SendPlan, room: usize) -> Answer
+    ensures { λ r. ⌜ r ≡ sendLate plan room ⌝ }
+{
+    defs::late(plan.len < plan.written, room < plan.written)
 }
 
 // A failed write or a full ring kills.

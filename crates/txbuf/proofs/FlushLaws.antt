@@ -1,11 +1,11 @@
 -- Laws of `flush_to`: the first piece, what the stream takes, and each end of a call. Assumes nothing.
-use Prim.Native.Nat.{ℕ, suc, _+_, _-_, _%_, _^_, _<_, _≤_, min}
+use Prim.Native.Nat.{ℕ, suc, _+_, _-_, _%_, _^_, _<_, _≤_, min, zero-le}
 use mathlib.Core.Path.{_≡_, refl, sym, ap, _∙_}
 use mathlib.Core.Logic.{⊎-elim}
 use mathlib.Core.Bool.{Bool, true, false, not, _&&_, _||_}
 use mathlib.Core.List.{List, [], _∷_, _++_, append-assoc, append-nil}
 use native.Mathlib.Omega.{arith}
-use native.Mathlib.Nat.{mod-lt, mod-eq-of-lt, mod-add-mod, add-zero}
+use native.Mathlib.Nat.{mod-lt, mod-eq-of-lt, mod-self, mod-add-mod, add-zero}
 use lib.Dec.{ltb, eqb}
 use lib.ListN.{length, take, drop, length-take, length-drop, length-append, take-append-drop, drop-of-length-le}
 use lib.Seq.{take-all, take-take, take-add, drop-drop, drop-at, length-take-le}
@@ -29,8 +29,8 @@ use Rattle.defs.proofs.LadderLaws.{lowest-passed, door-passed, late-passed}
 use Rattle.defs.proofs.CopyLaws.{copied-fits}
 use Rattle.defs.proofs.WrappingLaws.{keeps-place}
 use Rattle.txbuf.specs.Record.{Wide, usedOf, soundOf, heldFrom, held}
-use Rattle.txbuf.specs.Flush.{pieceLen, firstPiece, takenBy, overBy, endsBy, FlushIn, FlushLeft, inTurn, flushCount, flushOver, flushAnswer, advanced, flushDone, flushKept, flushOf, FlushSays, finishAnswer, finishOf}
-use Rattle.txbuf.specs.Promises.{TakesOldest, FlushTakesOldest, FlushProgresses, FirstPieceIsOldest}
+use Rattle.txbuf.specs.Flush.{pieceLen, firstPiece, takenBy, overBy, endsBy, FlushIn, FlushLeft, inTurn, flushCount, flushOver, flushAnswer, advanced, secondPiece, flushDone, flushKept, flushOf, FlushSays, finishAnswer, finishOf}
+use Rattle.txbuf.specs.Promises.{TakesOldest, FlushTakesOldest, FlushProgresses, FirstPieceIsOldest, PiecesAreHeld}
 use Rattle.txbuf.specs.declared.record.TxBuf.{TxBuf}
 use Rattle.txbuf.specs.declared.flush.Flushed.{Flushed}
 use Rattle.txbuf.proofs.RecordLaws.{Sound, sound-says, is-sound, held-length}
@@ -722,3 +722,53 @@ flush-progresses i left n w says done e l =
 
 pub first-piece-is-oldest : FirstPieceIsOldest
 first-piece-is-oldest b store w s = piece-held b store (sound-says b (length store) s) w
+
+-- ---- both pieces
+
+-- a piece is no longer than a ring
+pub piece-small : (b : TxBuf) (st : List ℕ) → length (firstPiece b st) ≤ maxRing
+unfolding firstPiece when
+piece-small b st =
+    ⊎-elim
+    (λ (t : soundOf b (length st) ≡ true).
+    let s = sound-says b (length st) t in
+    rw t (simp length-take (omega arith)))
+    (λ (t : soundOf b (length st) ≡ false). rw t zero-le)
+    (true-or-false (soundOf b (length st)))
+
+-- a piece that leaves something ends at the storage's end, so the next starts at the front
+next-offset : (t k size : ℕ) → 0 < size → k ≡ size - t % size → (t + k) % size ≡ 0
+next-offset t k size l e =
+    let m = mod-lt t l in
+    let z : t % size + k ≡ size = omega arith in
+    sym (mod-add-mod t size k) ∙ ap (λ (x : ℕ). x % size) z ∙ mod-self size
+
+-- and it offers all that is left
+next-length : (size t t' n : ℕ) → 0 < size → n ≤ size → t' % size ≡ (t + pieceLen size t n) % size → pieceLen size t' (n - pieceLen size t n) ≡ n - pieceLen size t n
+next-length size t t' n l h e =
+    let m = mod-lt t l in
+    ⊎-elim
+    (λ (x : size - t % size < n).
+    let k : pieceLen size t n ≡ size - t % size = omega arith in
+    let z : t' % size ≡ 0 = e ∙ next-offset t (pieceLen size t n) size l k in
+    omega arith)
+    (λ (x : n ≤ size - t % size). omega arith)
+    (lt-or-ge (size - t % size) n)
+
+pub pieces-are-held : PiecesAreHeld
+unfolding secondPiece
+pieces-are-held b store w t =
+    let s = sound-says b (length store) t in
+    let k : ℕ = pieceLen (b .size) (b .tail) (usedOf b) in
+    let l : k ≤ usedOf b = omega arith in
+    let c : TxBuf = advanced b k in
+    let wc : Wide c = record { head = w .head; tail = mod-lt (b .tail + k) (omega arith) } in
+    let u = advanced-used b store s w k l in
+    let m : length (drop k (held b store)) ≡ usedOf b - k = length-drop k (held b store) ∙ ap (λ (x : ℕ). x - k) (held-length b store) in
+    let p = s .least in
+    let q : pieceLen (c .size) (c .tail) (usedOf c) ≡ usedOf b - k =
+    ap (pieceLen (c .size) (c .tail)) u ∙ next-length (b .size) (b .tail) (c .tail) (usedOf b) (omega arith) (s .within) (keeps-place .sum (b .size) (b .tail) k (s .sized)) in
+    let r : firstPiece c store ≡ drop k (held b store) =
+    piece-held c store (advanced-sound b store s w k l) wc ∙ ap (take (pieceLen (c .size) (c .tail) (usedOf c))) (advanced-held b store s w k l)
+    ∙ take-all (pieceLen (c .size) (c .tail) (usedOf c)) (drop k (held b store)) (omega arith) in
+    rw (piece-length b store s w, r, piece-held b store s w) (take-append-drop k (held b store))

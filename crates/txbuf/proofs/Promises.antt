@@ -10,7 +10,7 @@ use Rattle.txbuf.specs.Record.{soundRecord, soundOf, heldFrom, held}
 use Rattle.txbuf.specs.Push.{runs, pushAnswer, pushDone, pushKept, pushOf}
 use Rattle.txbuf.specs.Flush.{firstPiece, takenBy, overBy, endsBy, flushCount, flushOver, flushAnswer, flushDone, flushKept, flushOf}
 use Rattle.txbuf.specs.Edges.{readingBCD, readingF}
-use Rattle.txbuf.specs.Promises.{TwoRunsAreOneWrite, HeldIsCounted, PushAppends, FirstPieceIsOldest, FlushTakesOldest, FlushProgresses, EdgesHold, EachCallPinned}
+use Rattle.txbuf.specs.Promises.{TwoRunsAreOneWrite, HeldIsCounted, PushAppends, FirstPieceIsOldest, PiecesAreHeld, FlushTakesOldest, FlushProgresses, EdgesHold, EachCallPinned}
 use Rattle.txbuf.proofs.RecordLaws as records
 use Rattle.txbuf.proofs.RingLaws as rings
 use Rattle.txbuf.proofs.PushLaws as pushes
@@ -27,6 +27,9 @@ push-appends = pushes.push-appends
 
 pub first-piece-is-oldest : FirstPieceIsOldest
 first-piece-is-oldest = flushes.first-piece-is-oldest
+
+pub pieces-are-held : PiecesAreHeld
+pieces-are-held = flushes.pieces-are-held
 
 pub flush-takes-oldest : FlushTakesOldest
 flush-takes-oldest = flushes.flush-takes-oldest
@@ -49,5 +52,6 @@ each-call-pinned = record {
   push = by-equation _ _ _;
   vsock-ring-push = by-equation _ _ _;
   first-piece = by-equation _ _ _;
+  second-piece = by-equation _ _ _;
   flush-to = by-equation _ _ _;
 }

@@ -82,6 +82,10 @@ flushAnswer i =
 abbrev pub advanced : TxBuf → ℕ → TxBuf
 advanced b n = record { size = b .size; head = b .head; tail = wadd (b .tail) n }
 
+-- the piece that would be offered next, were the first taken whole: the same rule applied again to what is left
+unfoldable pub secondPiece : TxBuf → List ℕ → List ℕ
+secondPiece b store = firstPiece (advanced b (length (firstPiece b store))) store
+
 -- the oldest bytes, as many as were taken, stand at the front of the outgoing buffer, the rest of which stays
 unfoldable pub flushDone : FlushIn → FlushLeft
 flushDone i = record {

@@ -11,7 +11,7 @@ use Rattle.defs.specs.declared.answer.Answer.the-variants.{Done}
 use Rattle.defs.specs.declared.stream.StreamAnswer.the-variants.{Count}
 use Rattle.txbuf.specs.Record.{Wide, usedOf, soundRecord, soundOf, held, NewLeft, NewSays, LenLeft, LenSays, EmptyLeft, EmptySays}
 use Rattle.txbuf.specs.Push.{runs, written, PushIn, PushLeft, PushSays, NumberedLeft, NumberedSays}
-use Rattle.txbuf.specs.Flush.{pieceLen, firstPiece, FlushIn, FlushLeft, FlushSays}
+use Rattle.txbuf.specs.Flush.{pieceLen, firstPiece, secondPiece, FlushIn, FlushLeft, FlushSays}
 use Rattle.txbuf.specs.Edges.{readingBCD, readingF}
 use Rattle.txbuf.specs.declared.record.TxBuf.{TxBuf}
 
@@ -35,6 +35,10 @@ abbrev pub FirstPieceIsOldest : Type 0
 FirstPieceIsOldest =
     (b : TxBuf) (store : List ℕ) → Wide b → soundOf b (length store) ≡ true
     → firstPiece b store ≡ take (pieceLen (b .size) (b .tail) (usedOf b)) (held b store)
+
+-- the two pieces of a sound ring are all that is held
+abbrev pub PiecesAreHeld : Type 0
+PiecesAreHeld = (b : TxBuf) (store : List ℕ) → Wide b → soundOf b (length store) ≡ true → firstPiece b store ++ secondPiece b store ≡ held b store
 
 -- whatever a flush answers, the bytes that it counts are the oldest, they stand at the front of the outgoing buffer, and the rest is still held
 pub record TakesOldest (i : FlushIn) (left : FlushLeft) : Type 0 where
@@ -66,4 +70,5 @@ pub record EachCallPinned : Type 0 where
   pub push : Pinned PushIn PushLeft PushSays
   pub vsock-ring-push : Pinned PushIn NumberedLeft NumberedSays
   pub first-piece : Pinned (TxBuf × List ℕ) (List ℕ) (λ i r. r ≡ firstPiece (i .0) (i .1))
+  pub second-piece : Pinned (TxBuf × List ℕ) (List ℕ) (λ i r. r ≡ secondPiece (i .0) (i .1))
   pub flush-to : Pinned FlushIn FlushLeft FlushSays

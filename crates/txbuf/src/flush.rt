@@ -4,7 +4,7 @@ ghost use Prim.Native.Nat.{_+_, _≤_};
 ghost use lib.ListN.{length};
 ghost use Rattle.defs.specs.Answer.{told};
 ghost use Rattle.defs.specs.Limits.{maxRing};
-ghost use Rattle.txbuf.specs.Flush.{firstPiece, advanced, finishOf, FlushIn, FlushLeft, FlushSays};
+ghost use Rattle.txbuf.specs.Flush.{firstPiece, secondPiece, advanced, finishOf, FlushIn, FlushLeft, FlushSays};
 use crate::record::TxBuf;
 use defs::Answer;
 use defs::StreamAnswer;
@@ -28,6 +28,14 @@ impl TxBuf {
             return &storage[at..end];
         }
         &storage[..0]
+    }
+
+    // The piece that a flush would offer next, were the first taken whole.
+    pub fn second_piece(self, storage: &[u8]) -> &[u8]
+        ensures { λ r. ⌜ now r ≡ secondPiece self (now (storage .entry)) ⌝ }
+    {
+        let first = self.first_piece(storage).len();
+        advance(self, first).first_piece(storage)
     }
 
     // Flushes the ring. A piece that is taken whole is followed by a flush of what is left, whose

@@ -1,7 +1,7 @@
 use borrow.Author.Needs.{needs}
-use Rattle.connection.proofs.ReceiveLaws.{refusal-is}
-use mathlib.Core.Path.{ap, _∙_}
 use Prim.Native.Nat.{ℕ, min}
+use mathlib.Core.Path.{ap, _∙_}
+use Rattle.connection.proofs.ReceiveLaws.{refusal-is}
 use Rattle.connection.proofs.receive.recv_refusal.Statement.{statement}
 use Rattle.connection.proofs.receive.recv_refusal.Tie as tie
 
@@ -13,13 +13,9 @@ returns c =
     let k = m .before in
     let n = k .before in
     let d = n .before in
-    let p = d .before in
-    let j = p .before in
-    let h = j .before in
-    let a = h .before .before .args in
-    refusal-is (a .conn) (a .hdr) (a .present) (a .buf) (a .now-ms) (a .answer) (a .read) _ _ _ _ _ _ _ _ _ _ (c .lowest .ensures) (l .late .ensures) (d .door .ensures)
-    (h .before .is-sound .ensures) (h .is-header-length .ensures) (j .is-clock .ensures) (p .is-packet-length .ensures) (t .reads .ensures) (n .read-count .ensures)
-    (m .smaller .ensures ∙ ap (λ (x : ℕ). min (a .buf) x) (k .credit .ensures))
+    let a = d .before .args in
+    refusal-is (a .conn) (a .hdr) (a .present) (a .buf) (a .now-ms) (a .answer) (a .read) _ _ _ _ _ _ (c .lowest .ensures) (l .late .ensures) (d .door-of .ensures)
+    (t .reads .ensures) (n .read-count .ensures) (m .smaller .ensures ∙ ap (λ (x : ℕ). min (a .buf) x) (k .credit .ensures))
 
 pub recv-refusal-spec : {M : Type 1} → statement M
-recv-refusal-spec = tie.close (tie.spec (search needs) (search needs) (search needs) (search needs) (search needs) (search needs) (search needs) (λ c. search needs) (search needs) (search needs) (search needs) (search needs) returns)
+recv-refusal-spec = tie.close (tie.spec (search needs) (search needs) (search needs) (λ c. search needs) (search needs) (search needs) (search needs) (search needs) returns)

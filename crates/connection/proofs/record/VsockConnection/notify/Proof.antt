@@ -5,21 +5,18 @@ use Rattle.txbuf.specs.Flush.{FlushLeft}
 use Rattle.defs.specs.Answer.{told}
 use mathlib.Core.Path.{refl}
 use Rattle.connection.specs.Notify.{NotifyIn}
-use Rattle.connection.proofs.NotifyLaws.{Door, door, is-due, Flushing, flushing, flush-within, notify-refused, notify-seen, notify-kept, notify-done}
+use Rattle.connection.proofs.NotifyLaws.{is-due, Flushing, flushing, flush-within, notify-refused, notify-seen, notify-kept, notify-done}
 use Rattle.connection.proofs.record.VsockConnection.notify.Statement.{statement}
 use Rattle.connection.proofs.record.VsockConnection.notify.Tie as tie
 
 -- what the call is given
-abbrev given : tie.After-door → NotifyIn
+abbrev given : tie.After-notify-door → NotifyIn
 given d =
-    let a = d .before .before .before .before .args in
+    let a = d .before .before .before .args in
     record { conn = a .self; readable = a .readable; writable = a .writable; store = now (a .storage); answers = a .answers; out = now (a .out) }
 
-tested : (d : tie.After-door) → Door (given d) (d .door .result)
-tested d = door (given d) _ _ (d .door .ensures) (d .before .is-sound-over .ensures)
-
 -- the flush
-abbrev at : tie.After-absorb → tie.After-door
+abbrev at : tie.After-absorb → tie.After-notify-door
 at f = f .before .before .before .before .before .before .before .before .before .before .before
 
 abbrev flushLeft : tie.After-absorb → FlushLeft
@@ -27,15 +24,15 @@ flushLeft f =
     let y = f .before .before .before in
     record { answer = told (y .flush-to .result .answer); count = y .flush-to .result .count; ring = y .flush-to .result .ring; out = y .flush-to .last .1 .1 .1 .0 }
 
-answered : (f : tie.After-absorb) → Flushing (given (at f)) (at f .door .result) (f .absorb .result) (flushLeft f)
+answered : (f : tie.After-absorb) → Flushing (given (at f)) (at f .notify-door .result) (f .absorb .result) (flushLeft f)
 answered f =
     let y = f .before .before .before in
     let t = y .before .before .before in
     let q = t .before in
-    flushing (given (at f)) _ _ (y .flush-to .result .answer) _ (tested (at f)) (q .before .before .enum-told .given .1) (is-due (given (at f)) _ _ (q .is-quiet .ensures) (t .if1 .taken)) (y .flush-to .ensures) refl (f .absorb .ensures)
+    flushing (given (at f)) _ _ (y .flush-to .result .answer) _ (at f .notify-door .ensures) (q .before .before .enum-told .given .1) (is-due (given (at f)) _ _ (q .is-quiet .ensures) (t .if1 .taken)) (y .flush-to .ensures) refl (f .absorb .ensures)
 
 returns : tie.Need-returns
-returns c = notify-refused _ _ (tested (c .before)) (c .match .keys2)
+returns c = notify-refused _ _ (c .before .notify-door .ensures) (c .match .keys2)
 
 returns-2 : tie.Need-returns-2
 returns-2 c = notify-kept (given (at (c .before))) _ _ (flushLeft (c .before)) (answered (c .before)) (c .match2 .keys2)
@@ -54,7 +51,7 @@ returns-4 : tie.Need-returns-4
 returns-4 c =
     let s = c .before .before in
     let d = s .before .before .before in
-    notify-seen (given d) _ _ (tested d) (s .before .enum-told .given .1) (is-due (given d) _ _ (c .before .is-quiet .ensures) (c .if1 .left)) (s .see .ensures)
+    notify-seen (given d) _ _ (d .notify-door .ensures) (s .before .enum-told .given .1) (is-due (given d) _ _ (c .before .is-quiet .ensures) (c .if1 .left)) (s .see .ensures)
 
 pub notify-spec : {M : Type 1} → statement M
-notify-spec = tie.close (tie.spec (search needs) (search needs) (λ c. search needs) returns (search needs) (search needs) (search needs) (search needs) (λ c. search needs) (λ c. search needs) returns-2 (search needs) drained-requires (λ c. search needs) returns-3 returns-4)
+notify-spec = tie.close (tie.spec (search needs) (λ c. search needs) returns (search needs) (search needs) (search needs) (search needs) (λ c. search needs) (λ c. search needs) returns-2 (search needs) drained-requires (λ c. search needs) returns-3 returns-4)

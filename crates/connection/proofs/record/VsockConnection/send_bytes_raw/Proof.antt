@@ -12,7 +12,7 @@ use Rattle.connection.proofs.record.VsockConnection.send_bytes_raw.Tie 
 -- what the call is given, and the answer that it decides
 abbrev given : tie.After-lowest2 → RawIn
 given l =
-    let a = l .before .before .before .before .before .before .before .before .before .before .args in
+    let a = l .before .before .before .before .before .before .before .before .args in
     record { conn = a .self; buf = now (a .buf); answers = a .answers; out = now (a .out) }
 
 decided : (l : tie.After-lowest2) → l .lowest2 .result ≡ rawAnswer (given l)
@@ -21,9 +21,8 @@ decided l =
     let w = s .before in
     let t = w .before in
     let d = t .before in
-    let p = d .before in
-    raw-answer (given l) _ _ _ _ _ _ _ _ (l .lowest2 .ensures) (s .stopped-by .ensures) (w .lowest .ensures) (t .late .ensures) (d .door .ensures) (p .is-packet-length .ensures)
-    (p .before .is-sound .ensures) (p .before .before .count-of .ensures)
+    raw-answer (given l) _ _ _ _ _ _ (l .lowest2 .ensures) (s .stopped-by .ensures) (w .lowest .ensures) (t .late .ensures) (d .raw-door .ensures)
+    (d .before .count-of .ensures)
 
 returns : tie.Need-returns
 returns c = raw-kept (given (c .before)) _ (decided (c .before)) (c .match .keys2)
@@ -33,7 +32,7 @@ slice-aggregate-copy c =
     let e = c .before .before in
     let l = e .before .before in
     let f = raw-fits (given l) (sym (decided l) ∙ e .enum-told .given .1) in
-    let n = l .before .before .before .before .before .before .before .count-of .ensures in
+    let n = l .before .before .before .before .before .count-of .ensures in
     simp length-take (omega arith)
 
 returns-2 : tie.Need-returns-2
@@ -41,7 +40,7 @@ returns-2 c =
     let y = c .before .before in
     let e = y .before .before .before in
     let l = e .before .before in
-    raw-left (given l) _ _ _ (decided l) (e .enum-told .given .1) (l .before .before .before .before .before .before .before .count-of .ensures) (y .copy .ensures)
+    raw-left (given l) _ _ _ (decided l) (e .enum-told .given .1) (l .before .before .before .before .before .count-of .ensures) (y .copy .ensures)
 
 pub send-bytes-raw-spec : {M : Type 1} → statement M
-send-bytes-raw-spec = tie.close (tie.spec (search needs) (search needs) (search needs) (search needs) (search needs) (search needs) (search needs) (search needs) (λ c. search needs) returns slice-aggregate-copy (search needs) (λ c. search needs) returns-2)
+send-bytes-raw-spec = tie.close (tie.spec (search needs) (search needs) (search needs) (search needs) (search needs) (search needs) (λ c. search needs) returns slice-aggregate-copy (search needs) (λ c. search needs) returns-2)

@@ -4,6 +4,7 @@ use mathlib.Core.Path.{sym, ap, _∙_}
 use native.Mathlib.Omega.{arith}
 use lib.ListN.{length-take}
 use denote.Ref.{now}
+use Rattle.defs.proofs.AnswerLaws.{not-done}
 use Rattle.packet.proofs.Callers.{header-is, no-header}
 use Rattle.connection.specs.Send.{SendIn}
 use Rattle.connection.specs.declared.send.SendPlan.{SendPlan}
@@ -18,14 +19,17 @@ given d =
     record { conn = a .self; store = now (a .storage); hdr = now (a .hdr); present = a .present; buf = now (a .buf); clock = a .now-ms; answers = a .answers; out = now (a .out) }
 
 -- where the refusal is known
-abbrev at : tie.After-send-refusal → SendIn
-at f = given (f .before .before .before .before .before)
+abbrev at : tie.After-lowest → SendIn
+at f = given (f .before .before .before .before .before .before .before)
 
-known : (f : tie.After-send-refusal) → Found (at f) (f .before .before .before .pkt .given .0 .0) (f .before .plan-send .result) (f .send-refusal .result)
+known : (f : tie.After-lowest) → Found (at f) (f .before .before .before .before .before .pkt .given .0 .0) (f .before .before .before .plan-send .result) (f .lowest .result)
 known f =
-    let k = f .before .before in
+    let l = f .before in
+    let p = l .before .before in
+    let k = p .before in
     let d = k .before .before .before in
-    found (at f) _ _ _ _ (header-is _ _ (rw (k .before .pkt .given .1) at (d .decode .ensures))) (f .before .plan-send .ensures) (d .before .is-sound-over .ensures) (f .send-refusal .ensures)
+    found (at f) _ _ _ _ _ _ (header-is _ _ (rw (k .before .pkt .given .1) at (d .decode .ensures))) (p .plan-send .ensures) (d .before .is-sound-over .ensures)
+    (l .before .door-past-header .ensures) (l .late .ensures) (f .lowest .ensures)
 
 fine : (c : tie.After-enum-told2) → Passed (at (c .before .before))
 fine c = passed _ (sym (known (c .before .before) .refusal) ∙ c .enum-told2 .given .1)
@@ -36,7 +40,7 @@ returns c =
     send-no-header (given d) _ _ (c .door .ensures) (d .before .is-sound-over .ensures) (no-header _ (rw (c .before .enum-told .given .1) at (d .decode .ensures)))
 
 returns-2 : tie.Need-returns-2
-returns-2 c = let k = known (c .before) in send-kept (at (c .before)) _ (k .refusal) (k .whole) (c .match2 .keys2)
+returns-2 c = send-kept (at (c .before)) _ (known (c .before) .refusal) (not-done _ (c .match2 .keys2))
 
 kills-requires : tie.Need-kills-requires
 kills-requires c κs = rw (known (c .before .before) .plan) (fine c .killable)
@@ -69,4 +73,4 @@ returns-3 c =
     send-left (at f) _ _ _ _ _ _ _ _ _ (known f) (e .before .enum-told2 .given .1) (e .kills .ensures) (y .carry .ensures .0) (y .carry .ensures .1) (c .before .heard .ensures) (c .rule .ensures)
 
 pub send-pkt-spec : {M : Type 1} → statement M
-send-pkt-spec = tie.close (tie.spec (search needs) (search needs) (λ c. search needs) (λ c. search needs) (search needs) returns (search needs) (search needs) (λ c. search needs) returns-2 kills-requires slice-aggregate-carry carry-requires (search needs) rule-requires (λ c. search needs) (λ c. search needs) returns-3)
+send-pkt-spec = tie.close (tie.spec (search needs) (search needs) (λ c. search needs) (λ c. search needs) (search needs) returns (search needs) (search needs) (search needs) (search needs) (λ c. search needs) returns-2 kills-requires slice-aggregate-carry carry-requires (search needs) rule-requires (λ c. search needs) (λ c. search needs) returns-3)

@@ -1,0 +1,10 @@
+use borrow.Author.Needs.{needs}
+use Rattle.connection.proofs.NotifyLaws.{notify-door}
+use Rattle.connection.proofs.record.VsockConnection.notify_door.Statement.{statement}
+use Rattle.connection.proofs.record.VsockConnection.notify_door.Tie as tie
+
+returns : tie.Need-returns
+returns c = notify-door _ _ _ _ (c .door .ensures) (c .before .is-sound-over .ensures)
+
+pub notify-door-spec : {M : Type 1} → statement M
+notify-door-spec = tie.close (tie.spec (search needs) (search needs) returns)

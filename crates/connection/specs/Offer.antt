@@ -1,0 +1,67 @@
+-- What a call would offer to the stream, or ask of it, before the stream has answered: none where its door refuses. Assumes nothing.
+use Prim.Native.Nat.{ℕ}
+use mathlib.Core.Bool.{Bool, not, _&&_}
+use mathlib.Core.List.{List, []}
+use lib.ListN.{length, take}
+use Rattle.defs.specs.Choice.{when}
+use Rattle.defs.specs.Answer.{isDone, whenDone}
+use Rattle.packet.specs.Header.{decoded}
+use Rattle.txbuf.specs.Record.{held}
+use Rattle.txbuf.specs.Flush.{firstPiece, secondPiece}
+use Rattle.connection.specs.Record.{quiet}
+use Rattle.connection.specs.Send.{writesOf, sendDoor, SendIn}
+use Rattle.connection.specs.Receive.{recvDoor, readsOf, askedOf, RecvIn, refusalOf, saidBy}
+use Rattle.connection.specs.Notify.{notifyDoor, NotifyIn}
+use Rattle.connection.specs.Raw.{rawDoor}
+use Rattle.connection.specs.declared.record.VsockConnection.{VsockConnection}
+
+-- `send_pkt` makes its one write: data goes, and the ring is empty
+unfoldable pub sendWrites : VsockConnection → ℕ → List ℕ → Bool → ℕ → ℕ → Bool
+sendWrites c storage hdr present buf clock = isDone (sendDoor c storage hdr present buf clock) && writesOf c (decoded hdr .op) present
+
+-- what it offers: the first `len` bytes, which may be none
+unfoldable pub sendOffered : VsockConnection → ℕ → List ℕ → Bool → List ℕ → ℕ → List ℕ
+sendOffered c storage hdr present buf clock = when (sendWrites c storage hdr present (length buf) clock) (take (decoded hdr .len) buf) []
+
+abbrev pub sendOffers : SendIn → List ℕ
+sendOffers i = sendOffered (i .conn) (length (i .store)) (i .hdr) (i .present) (i .buf) (i .clock)
+
+pub record AskedLeft : Type 0 where
+  pub reads : Bool
+  pub count : ℕ
+
+-- `recv_pkt` reads from the stream
+unfoldable pub recvReads : VsockConnection → ℕ → Bool → ℕ → ℕ → Bool
+recvReads c hdr present buf clock = isDone (recvDoor c hdr present buf clock) && readsOf c present
+
+-- and for how many bytes its read asks, which may be none
+unfoldable pub recvAsked : VsockConnection → ℕ → Bool → ℕ → ℕ → AskedLeft
+recvAsked c hdr present buf clock = record { reads = recvReads c hdr present buf clock; count = when (recvReads c hdr present buf clock) (askedOf c buf) 0 }
+
+abbrev pub recvAsks : RecvIn → AskedLeft
+recvAsks i = recvAsked (i .conn) (length (i .hdr)) (i .present) (length (i .buf)) (i .clock)
+
+-- how many bytes of the answer to its read it takes
+unfoldable pub recvTaken : RecvIn → ℕ
+recvTaken i = whenDone (refusalOf i) (saidBy i .count) 0
+
+-- `notify` flushes: an out-event, and the ring isn't empty
+unfoldable pub notifyFlushes : VsockConnection → Bool → ℕ → Bool
+notifyFlushes c writable storage = isDone (notifyDoor c storage) && (writable && not (quiet c))
+
+-- what it offers: all that is held, in two pieces, the second only if the first was taken whole
+unfoldable pub notifyOffered : VsockConnection → Bool → List ℕ → List ℕ
+notifyOffered c writable store = when (notifyFlushes c writable (length store)) (held (c .«tx_buf») store) []
+
+abbrev pub notifyOffers : NotifyIn → List ℕ
+notifyOffers i = notifyOffered (i .conn) (i .writable) (i .store)
+
+unfoldable pub notifyFirst : VsockConnection → Bool → List ℕ → List ℕ
+notifyFirst c writable store = when (notifyFlushes c writable (length store)) (firstPiece (c .«tx_buf») store) []
+
+unfoldable pub notifySecond : VsockConnection → Bool → List ℕ → List ℕ
+notifySecond c writable store = when (notifyFlushes c writable (length store)) (secondPiece (c .«tx_buf») store) []
+
+-- the raw send offers its bytes
+unfoldable pub rawOffered : VsockConnection → List ℕ → List ℕ
+rawOffered c buf = when (isDone (rawDoor c (length buf))) buf []

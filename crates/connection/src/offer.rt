@@ -1,0 +1,155 @@
+// What a call would offer to the stream, or ask of it: for a caller who tries the stream first and
+// hands in its answer after. Nothing where the call's door refuses.
+ghost use mathlib.Core.Path.{_≡_};
+ghost use lib.ListN.{length};
+ghost use Rattle.defs.specs.Answer.{isDone};
+ghost use Rattle.connection.specs.Send.{sendDoor};
+ghost use Rattle.connection.specs.Receive.{recvDoor};
+ghost use Rattle.connection.specs.Offer.{sendWrites, sendOffered, AskedLeft, recvReads, recvAsked, notifyFlushes, notifyFirst, notifySecond, rawOffered};
+use crate::receive::door_of;
+use crate::receive::reads;
+use crate::record::VsockConnection;
+use crate::record::credit;
+use crate::record::is_quiet;
+use crate::record::is_sound_over;
+use crate::send::choose;
+use crate::send::door_past_header;
+use crate::send::goes;
+use defs::Answer;
+use packet::Decoded;
+
+// Whether a turn reads, and for how many bytes it asks: a read may ask for none.
+pub struct Asked {
+    pub reads: bool,
+    pub count: usize,
+}
+
+impl VsockConnection {
+    // What `send_pkt` answers of 1 to 4.
+    pub fn send_door(
+        self,
+        hdr: &[u8],
+        present: bool,
+        buf: &[u8],
+        now_ms: u64,
+        storage: &[u8],
+    ) -> Answer
+        ensures { λ r. ⌜ r ≡ sendDoor self (length (now (storage .entry))) (now (hdr .entry)) present (length (now (buf .entry))) «now_ms» ⌝ }
+    {
+        let sound = is_sound_over(self, storage.len());
+        let Decoded::Header(pkt) = packet::decode(hdr) else {
+            return defs::door(!sound, true, false, false);
+        };
+        door_past_header(sound, pkt, present, buf.len(), now_ms)
+    }
+
+    // Whether `send_pkt` makes its one write, which may be of no byte.
+    pub fn send_writes(
+        self,
+        hdr: &[u8],
+        present: bool,
+        buf: &[u8],
+        now_ms: u64,
+        storage: &[u8],
+    ) -> bool
+        ensures { λ r. ⌜ r ≡ sendWrites self (length (now (storage .entry))) (now (hdr .entry)) present (length (now (buf .entry))) «now_ms» ⌝ }
+    {
+        let Decoded::Header(pkt) = packet::decode(hdr) else {
+            return false;
+        };
+        let sound = is_sound_over(self, storage.len());
+        let door = door_past_header(sound, pkt, present, buf.len(), now_ms);
+        let writes = goes(self, pkt.op, present) & is_quiet(self);
+        is_open(door) & writes
+    }
+
+    // What it offers, as a part of `buf`.
+    pub fn send_offered<'a>(
+        self,
+        hdr: &[u8],
+        present: bool,
+        buf: &'a [u8],
+        now_ms: u64,
+        storage: &[u8],
+    ) -> &'a [u8]
+        ensures { λ r. ⌜ now r ≡ sendOffered self (length (now (storage .entry))) (now (hdr .entry)) present (now (buf .entry)) «now_ms» ⌝ }
+    {
+        let Decoded::Header(pkt) = packet::decode(hdr) else {
+            return &buf[..0];
+        };
+        let len = defs::smaller(pkt.len as usize, buf.len());
+        if self.send_writes(hdr, present, buf, now_ms, storage) {
+            return &buf[..len];
+        }
+        &buf[..0]
+    }
+
+    // What `recv_pkt` answers of 1 to 4.
+    pub fn recv_door(self, hdr: &[u8], present: bool, buf: &[u8], now_ms: u64) -> Answer
+        ensures { λ r. ⌜ r ≡ recvDoor self (length (now (hdr .entry))) present (length (now (buf .entry))) «now_ms» ⌝ }
+    {
+        door_of(self, hdr.len(), present, buf.len(), now_ms)
+    }
+
+    // Whether `recv_pkt` reads from the stream, and for how many bytes it asks.
+    pub fn recv_asked(self, hdr: &[u8], present: bool, buf: &[u8], now_ms: u64) -> Asked
+        ensures { λ r. ⌜ record { reads = r .reads; count = r .count } ≡ recvAsked self (length (now (hdr .entry))) present (length (now (buf .entry))) «now_ms» ⌝ }
+    {
+        let door = door_of(self, hdr.len(), present, buf.len(), now_ms);
+        let reads = is_open(door) & reads(self, present);
+        let asked = defs::smaller(buf.len(), credit(self) as usize);
+        Asked {
+            reads,
+            count: choose(reads, asked),
+        }
+    }
+
+    // What `notify` offers first, as a part of `storage`: empty where no flush is due.
+    pub fn notify_offered(self, writable: bool, storage: &[u8]) -> &[u8]
+        ensures { λ r. ⌜ now r ≡ notifyFirst self writable (now (storage .entry)) ⌝ }
+    {
+        let ring = self.tx_buf;
+        if flushes(self, writable, storage.len()) {
+            return ring.first_piece(storage);
+        }
+        &storage[..0]
+    }
+
+    // What it offers next, if that was taken whole.
+    pub fn notify_offered_next(self, writable: bool, storage: &[u8]) -> &[u8]
+        ensures { λ r. ⌜ now r ≡ notifySecond self writable (now (storage .entry)) ⌝ }
+    {
+        let ring = self.tx_buf;
+        if flushes(self, writable, storage.len()) {
+            return ring.second_piece(storage);
+        }
+        &storage[..0]
+    }
+
+    // What `send_bytes_raw` offers.
+    pub fn raw_offered(self, buf: &[u8]) -> &[u8]
+        ensures { λ r. ⌜ now r ≡ rawOffered self (now (buf .entry)) ⌝ }
+    {
+        let Answer::Done = self.raw_door(buf) else {
+            return &buf[..0];
+        };
+        buf
+    }
+}
+
+fn is_open(door: Answer) -> bool
+    ensures { λ r. ⌜ r ≡ isDone door ⌝ }
+{
+    let Answer::Done = door else {
+        return false;
+    };
+    true
+}
+
+fn flushes(conn: VsockConnection, writable: bool, storage: usize) -> bool
+    ensures { λ r. ⌜ r ≡ notifyFlushes conn writable storage ⌝ }
+{
+    let door = defs::door(!is_sound_over(conn, storage), false, false, false);
+    let due = writable & !is_quiet(conn);
+    is_open(door) & due
+}
