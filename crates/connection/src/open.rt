@@ -14,7 +14,7 @@ use defs::limits;
 use txbuf::TxBuf;
 
 impl VsockConnection {
-    // Outcome by the guest, whose REQUEST told its space: a RESPONSE is due.
+    // Opened by the guest, whose REQUEST told its space: a RESPONSE is due.
     pub fn new_peer_init(
         size: u32,
         settings: Settings,
@@ -54,7 +54,7 @@ impl VsockConnection {
         Outcome { answer, conn }
     }
 
-    // Outcome by the host: a REQUEST is due, and the guest's space is not known yet.
+    // Opened by the host: a REQUEST is due, and the guest's space is not known yet.
     pub fn new_local_init(
         size: u32,
         settings: Settings,
