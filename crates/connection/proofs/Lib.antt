@@ -6,4 +6,8 @@ pub mod SendLaws
 pub mod NotifyLaws
 pub mod OfferLaws
 pub mod MovesLaws
+pub mod RunLaws
+pub mod FlagLaws
+pub mod DrainLaws
+pub mod Stories
 pub mod Promises

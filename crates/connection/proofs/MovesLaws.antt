@@ -1,10 +1,11 @@
 -- Laws of what a call moves. Assumes nothing.
-use Prim.Native.Nat.{ℕ, _^_, _<_, _≤_}
+use Prim.Native.Nat.{ℕ, _+_, _^_, _<_, _≤_}
 use mathlib.Core.Path.{_≡_, refl, sym, ap, subst, _∙_}
 use mathlib.Core.Logic.{_⊎_, inl, inr, ⊎-elim}
 use mathlib.Core.Bool.{Bool, true, false, not, _&&_}
 use mathlib.Core.List.{List, [], _++_, append-nil, append-assoc}
 use native.Mathlib.Omega.{arith}
+use native.Mathlib.Nat.{mod-lt}
 use lib.Dec.{eqb}
 use lib.ListN.{length, take, drop, length-drop, take-append-drop}
 use lib.Seq.{length-take-le, take-at}
@@ -22,12 +23,12 @@ use Rattle.txbuf.specs.Record.{Wide, usedOf, heldFrom, held}
 use Rattle.txbuf.specs.Push.{PushIn, PushLeft, pushAnswer, pushAnswerOf, pushDone, pushOf}
 use Rattle.txbuf.proofs.RecordLaws.{held-length}
 use Rattle.txbuf.proofs.PushLaws.{push-is-done, push-appends}
-use Rattle.txbuf.proofs.FlushLaws.{count-small, flush-takes-oldest}
+use Rattle.txbuf.proofs.FlushLaws.{count-small, flush-takes-oldest, flush-wide}
 use Rattle.txbuf.specs.declared.record.TxBuf.{TxBuf}
 use Rattle.connection.specs.State.{takes, isLocalInit, bothOff}
 use Rattle.connection.specs.Record.{quiet, withState, killedOf}
 use Rattle.connection.specs.Receive.{spokenOf, receivedOf, RecvLeft, refusalOf, recvDone, recvKept, recvOf}
-use Rattle.connection.specs.Open.{OpenLeft}
+use Rattle.connection.specs.Open.{ConnLeft}
 use Rattle.connection.specs.Look.{lookAnswer, killOf}
 use Rattle.connection.specs.declared.receive.Row.{Row}
 use Rattle.connection.specs.Send.{heardOf, movedOf, updatedOf, onResponse, onShutdown, onCreditRequest, onData, ruleOf, goesOf, planOf, carried, SendIn, SendLeft, pktOf, sendPlan, sendAnswer, payload, sendKills, sendCarried, sendDone, sendKept, sendOf, accepted}
@@ -153,7 +154,7 @@ no-data : (i : SendIn) → sendPlan i .goes ≡ false → (sendPlan i .len ≡ 0
 unfolding planOf when
 no-data i g = rw g (refl, refl)
 
-goes-is-rw : (i : SendIn) → sendPlan i .goes ≡ true → eqb (pktOf i .op) opRw ≡ true
+pub goes-is-rw : (i : SendIn) → sendPlan i .goes ≡ true → eqb (pktOf i .op) opRw ≡ true
 unfolding planOf goesOf
 goes-is-rw i g = both (takes (i .conn .state) && i .present) (eqb (pktOf i .op) opRw) g .1
 
@@ -203,15 +204,26 @@ gone i w s g = record {
 wadd-none : (n : ℕ) → n < 2 ^ 32 → wadd n 0 ≡ n
 wadd-none n l = omega arith
 
+-- the numbers of a record whose account is known
+numbers-of : (c : VsockConnection) (a : Account) → account c ≡ a → Wide (a .ring) → a .«fwd_cnt» < 2 ^ 32 → Numbers c
+unfolding account
+numbers-of c a e w l = record { ring = subst (λ (x : Account). Wide (x .ring)) (sym e) w; «fwd_cnt» = subst (λ (x : Account). x .«fwd_cnt» < 2 ^ 32) (sym e) l }
+
 -- a call that leaves ring, count, settings and storage moves nothing
-stays : (before after : VsockConnection) (store : List ℕ) → Numbers before → account after ≡ account before
+pub stays : (before after : VsockConnection) (store : List ℕ) → Numbers before → account after ≡ account before
     → Moved before after (held (before .«tx_buf») store) (held (after .«tx_buf») store) [] []
 unfolding account
 stays before after store n e = record {
   bytes = ap (λ (a : Account). held (a .ring) store) e ∙ sym (append-nil _);
   counted = ap (λ (a : Account). a .«fwd_cnt») e ∙ sym (wadd-none _ (n .«fwd_cnt»));
   settings = ap (λ (a : Account). a .settings) e;
+  numbers = numbers-of after (account before) e (n .ring) (n .«fwd_cnt»);
 }
+
+carried-wide : (keeps : Bool) (ring : TxBuf) (store rest : List ℕ) → Wide ring → Wide (carried keeps ring store rest .ring)
+unfolding carried pushDone when
+carried-wide true ring store rest w = record { head = mod-lt (ring .head + length rest) (omega arith); tail = w .tail }
+carried-wide false ring store rest w = w
 
 same : (b : Bool) (x y v : List ℕ) → x ≡ v → y ≡ v → when b x y ≡ v
 unfolding when
@@ -240,6 +252,7 @@ data-moves i n d g =
           ∙ ap (λ (x : List ℕ). held (i .conn .«tx_buf») (i .store) ++ x) (sym (when-done _ _ _ d));
       counted = ap (λ (a : Account). a .«fwd_cnt») (o .ring) ∙ ap (wadd (i .conn .«fwd_cnt»)) (sym (ap length f ∙ m));
       settings = ap (λ (a : Account). a .settings) (o .ring);
+      numbers = numbers-of (sendDone i .conn) _ (o .ring) (carried-wide _ _ _ _ (n .ring)) (mod-lt (i .conn .«fwd_cnt» + sendPlan i .written) (omega arith));
     }
 
 no-data-moves : (i : SendIn) → Numbers (i .conn) → sendAnswer i ≡ Done → sendPlan i .goes ≡ false → SendMoved i (sendDone i)
@@ -260,6 +273,7 @@ no-data-moves i n d g =
           ∙ ap (λ (x : List ℕ). held (i .conn .«tx_buf») (i .store) ++ x) (sym a);
       counted = s .counted ∙ ap (λ (x : List ℕ). wadd (i .conn .«fwd_cnt») (length x)) (sym f);
       settings = s .settings;
+      numbers = s .numbers;
     }
 
 kept-moves : (i : SendIn) → Numbers (i .conn) → isDone (sendAnswer i) ≡ false → SendMoved i (sendKept i)
@@ -273,6 +287,7 @@ kept-moves i n k =
           ap (λ (x : List ℕ). x ++ held (i .conn .«tx_buf») (i .store)) f ∙ s .bytes ∙ ap (λ (x : List ℕ). held (i .conn .«tx_buf») (i .store) ++ x) (sym a);
       counted = s .counted ∙ ap (λ (x : List ℕ). wadd (i .conn .«fwd_cnt») (length x)) (sym f);
       settings = refl;
+      numbers = n;
     }
 
 send-of-moves : (i : SendIn) → Numbers (i .conn) → SendMoved i (sendOf i)
@@ -318,6 +333,7 @@ flush-moves i n d u =
           ∙ sym (append-nil h);
       counted = ap (λ (a : Account). a .«fwd_cnt») c ∙ ap (wadd (i .conn .«fwd_cnt»)) (sym (ap length f ∙ m));
       settings = ap (λ (a : Account). a .settings) c;
+      numbers = numbers-of (notifyDone i .conn) _ c (flush-wide (flushIn i) (flushed i) (n .ring) refl) (mod-lt (i .conn .«fwd_cnt» + flushed i .count) (omega arith));
     }
 
 -- nothing was taken
@@ -329,6 +345,7 @@ none-taken i left n t e =
       bytes = ap (λ (x : List ℕ). x ++ held (left .conn .«tx_buf») (i .store)) f ∙ s .bytes;
       counted = s .counted ∙ ap (λ (x : List ℕ). wadd (i .conn .«fwd_cnt») (length x)) (sym f);
       settings = s .settings;
+      numbers = s .numbers;
     }
 
 seen-moves : (i : NotifyIn) → Numbers (i .conn) → notifyAnswer i ≡ Done → due i ≡ false → NotifyMoved i (notifyDone i)
@@ -368,4 +385,4 @@ receive-keeps i left says =
 pub kill-keeps : KillKeeps
 unfolding killOf whenDone
 kill-keeps c left says =
-    ap (λ (o : OpenLeft). account (o .conn)) says ∙ either (isDone (lookAnswer c)) (killedOf c) c _ (kill-account c) refl
+    ap (λ (o : ConnLeft). account (o .conn)) says ∙ either (isDone (lookAnswer c)) (killedOf c) c _ (kill-account c) refl

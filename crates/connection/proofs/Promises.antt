@@ -19,7 +19,13 @@ use Rattle.connection.specs.Receive.{nextStep, spokenOf, receivedOf, hea
 use Rattle.connection.specs.Send.{heardOf, movedOf, updatedOf, onData, ruleOf, goesOf, planOf, killsOf, sendDoorOf, sendLate, carried, sendDoor, sendAnswer, sendDone, sendKept, sendOf}
 use Rattle.connection.specs.Edges.{readingA, readingBCD, readingE, readingF, readingG, readingH, readingI}
 use Rattle.connection.specs.Promises.{SendMoves, NotifyMoves, SendCountedOff, NotifyCountedOff, NotifyOffersPieces, ReadWithinAsked, ReceiveKeeps, KillKeeps, EdgesHold, EachCallPinned}
+use Rattle.connection.specs.Runs.{EveryRunForwards, CutsDoNotMatter, FlagsOnlyGrow, Drains}
+use Rattle.connection.specs.Stories.{StoriesHold}
 use Rattle.connection.proofs.MovesLaws as moves
+use Rattle.connection.proofs.RunLaws as forwarding
+use Rattle.connection.proofs.FlagLaws as flags
+use Rattle.connection.proofs.DrainLaws as draining
+use Rattle.connection.proofs.Stories as stories
 use Rattle.connection.proofs.OfferLaws as offers
 
 pub send-moves : SendMoves
@@ -45,6 +51,21 @@ receive-keeps = moves.receive-keeps
 
 pub kill-keeps : KillKeeps
 kill-keeps = moves.kill-keeps
+
+pub every-run-forwards : EveryRunForwards
+every-run-forwards = forwarding.every-run-forwards
+
+pub cuts-do-not-matter : CutsDoNotMatter
+cuts-do-not-matter = forwarding.cuts-do-not-matter
+
+pub flags-only-grow : FlagsOnlyGrow
+flags-only-grow = flags.flags-only-grow
+
+pub drains : Drains
+drains = draining.drains
+
+pub stories-hold : StoriesHold
+stories-hold = stories.stories-hold
 
 pub edges-hold : EdgesHold
 unfolding when isDone whenDone isRingSize isThreshold isTimeout isClock isPacketLength isHeaderLength doorOf lateOf lowestOf copied peerAvailCredit peerNeedsCreditUpdate encoded decoded soundRecord soundOf heldFrom held recordAnswer runs pushDone okSettings soundConn soundOver quiet creditOf withState killedOf freshOf openAnswer peerInitOf nextStep spokenOf receivedOf headerOf recvDoor readsOf recvRefusal recvDone recvKept recvOf heardOf movedOf updatedOf onData ruleOf goesOf planOf killsOf sendDoorOf sendLate carried sendDoor takenBy overBy endsBy flushCount flushOver flushAnswer flushDone flushKept flushOf seenOf absorbed settledOf drainedOf notifyDoor notifyAnswer notifyDone notifyKept notifyOf clockAnswer hasExpiredOf sendAnswer sendDone sendKept sendOf readingA readingBCD readingE readingF readingG readingH readingI

@@ -8,5 +8,7 @@ pub mod Send
 pub mod Notify
 pub mod Offer
 pub mod Moves
+pub mod Runs
+pub mod Stories
 pub mod Edges
 pub mod Promises

@@ -9,7 +9,7 @@ use Rattle.defs.specs.Answer.{Told, told, whenDone}
 use Rattle.defs.specs.declared.answer.Answer.{Answer}
 use Rattle.connection.specs.State.{polls}
 use Rattle.connection.specs.Record.{soundConn, quiet, creditOf, killedOf}
-use Rattle.connection.specs.Open.{OpenLeft}
+use Rattle.connection.specs.Open.{ConnLeft}
 use Rattle.connection.specs.declared.record.PendingRxSet.{PendingRxSet}
 use Rattle.connection.specs.declared.record.Timer.{Timer}
 use Rattle.connection.specs.declared.record.Timer.the-variants.{Unset, At}
@@ -104,8 +104,8 @@ evSetOf c = record {
 abbrev pub EvSetSays : VsockConnection → EvSetLeft → Type 0
 EvSetSays c left = left ≡ evSetOf c
 
-unfoldable pub killOf : VsockConnection → OpenLeft
+unfoldable pub killOf : VsockConnection → ConnLeft
 killOf c = record { answer = told (lookAnswer c); conn = whenDone (lookAnswer c) (killedOf c) c }
 
-abbrev pub KillSays : VsockConnection → OpenLeft → Type 0
+abbrev pub KillSays : VsockConnection → ConnLeft → Type 0
 KillSays c left = left ≡ killOf c

@@ -34,8 +34,9 @@ sendTaken i = whenDone (sendAnswer i) (sendPlan i .written) 0
 unfoldable pub notifyTaken : NotifyIn → ℕ
 notifyTaken i = whenDone (notifyAnswer i) (when (due i) (flushed i .count) 0) 0
 
--- taken ++ held after = held before ++ accepted; fwd_cnt counts what was taken; settings stay
+-- taken ++ held after = held before ++ accepted; fwd_cnt counts what was taken; settings stay, and so does the numbers' width
 pub record Moved (before after : VsockConnection) (held-before held-after taken accepted : List ℕ) : Type 0 where
   pub bytes : taken ++ held-after ≡ held-before ++ accepted
   pub counted : after .«fwd_cnt» ≡ wadd (before .«fwd_cnt») (length taken)
   pub settings : after .settings ≡ before .settings
+  pub numbers : Numbers after

@@ -1,10 +1,12 @@
 -- What a call would offer to the stream, or ask of it, before the stream has answered: none where its door refuses. Assumes nothing.
 use Prim.Native.Nat.{ℕ}
+use mathlib.Core.Path.{_≡_}
 use mathlib.Core.Bool.{Bool, not, _&&_}
 use mathlib.Core.List.{List, []}
 use lib.ListN.{length, take}
 use Rattle.defs.specs.Choice.{when}
 use Rattle.defs.specs.Answer.{isDone, whenDone}
+use Rattle.defs.specs.declared.answer.Answer.{Answer}
 use Rattle.packet.specs.Header.{decoded}
 use Rattle.txbuf.specs.Record.{held}
 use Rattle.txbuf.specs.Flush.{firstPiece, secondPiece}
@@ -65,3 +67,44 @@ notifySecond c writable store = when (notifyFlushes c writable (length store)) (
 -- the raw send offers its bytes
 unfoldable pub rawOffered : VsockConnection → List ℕ → List ℕ
 rawOffered c buf = when (isDone (rawDoor c (length buf))) buf []
+
+-- ---- what the functions give, of what a call is given besides the stream's answers
+
+pub record Given : Type 0 where
+  pub conn : VsockConnection
+  pub store : List ℕ
+  pub hdr : List ℕ
+  pub present : Bool
+  pub buf : List ℕ
+  pub clock : ℕ
+
+abbrev pub SendDoorSays : Given → Answer → Type 0
+SendDoorSays g r = r ≡ sendDoor (g .conn) (length (g .store)) (g .hdr) (g .present) (length (g .buf)) (g .clock)
+
+abbrev pub SendWritesSays : Given → Bool → Type 0
+SendWritesSays g r = r ≡ sendWrites (g .conn) (length (g .store)) (g .hdr) (g .present) (length (g .buf)) (g .clock)
+
+abbrev pub SendOfferedSays : Given → List ℕ → Type 0
+SendOfferedSays g r = r ≡ sendOffered (g .conn) (length (g .store)) (g .hdr) (g .present) (g .buf) (g .clock)
+
+abbrev pub RecvDoorSays : Given → Answer → Type 0
+RecvDoorSays g r = r ≡ recvDoor (g .conn) (length (g .hdr)) (g .present) (length (g .buf)) (g .clock)
+
+abbrev pub RecvAskedSays : Given → AskedLeft → Type 0
+RecvAskedSays g r = r ≡ recvAsked (g .conn) (length (g .hdr)) (g .present) (length (g .buf)) (g .clock)
+
+abbrev pub NotifyDoorSays : Given → Answer → Type 0
+NotifyDoorSays g r = r ≡ notifyDoor (g .conn) (length (g .store))
+
+-- of an out-event, or none
+abbrev pub NotifyOfferedSays : Given × Bool → List ℕ → Type 0
+NotifyOfferedSays g r = r ≡ notifyFirst (g .0 .conn) (g .1) (g .0 .store)
+
+abbrev pub NotifyNextSays : Given × Bool → List ℕ → Type 0
+NotifyNextSays g r = r ≡ notifySecond (g .0 .conn) (g .1) (g .0 .store)
+
+abbrev pub RawDoorSays : Given → Answer → Type 0
+RawDoorSays g r = r ≡ rawDoor (g .conn) (length (g .buf))
+
+abbrev pub RawOfferedSays : Given → List ℕ → Type 0
+RawOfferedSays g r = r ≡ rawOffered (g .conn) (g .buf)

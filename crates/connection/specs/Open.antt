@@ -24,7 +24,8 @@ pub record Opening : Type 0 where
   pub «peer_port» : ℕ
   pub alloc : ℕ
 
-pub record OpenLeft : Type 0 where
+-- what a call leaves that gives back an answer and a record
+pub record ConnLeft : Type 0 where
   pub answer : Told
   pub conn : VsockConnection
 
@@ -70,7 +71,7 @@ unfoldable pub openAnswer : ℕ → Settings → Answer
 openAnswer size settings = recordAnswer (isRingSize size && okSettings settings size)
 
 -- by the guest: PeerInit, Response pending, the given space
-unfoldable pub peerInitOf : Opening → OpenLeft
+unfoldable pub peerInitOf : Opening → ConnLeft
 peerInitOf o = record {
   answer = told (openAnswer (o .size) (o .settings));
   conn =
@@ -79,7 +80,7 @@ peerInitOf o = record {
 }
 
 -- by the host: LocalInit, Request pending
-unfoldable pub localInitOf : Opening → OpenLeft
+unfoldable pub localInitOf : Opening → ConnLeft
 localInitOf o = record {
   answer = told (openAnswer (o .size) (o .settings));
   conn =
@@ -87,8 +88,8 @@ localInitOf o = record {
       (freshOf o LocalInit (record { request = true; response = false; rst = false; rw = false; «credit_update» = false })) zeroConn;
 }
 
-abbrev pub PeerInitSays : Opening → OpenLeft → Type 0
+abbrev pub PeerInitSays : Opening → ConnLeft → Type 0
 PeerInitSays o left = left ≡ peerInitOf o
 
-abbrev pub LocalInitSays : Opening → OpenLeft → Type 0
+abbrev pub LocalInitSays : Opening → ConnLeft → Type 0
 LocalInitSays o left = left ≡ localInitOf o

@@ -3,19 +3,19 @@ use Prim.Native.Nat.{ℕ, _≤_}
 use mathlib.Core.Path.{_≡_}
 use mathlib.Core.Bool.{Bool}
 use mathlib.Core.List.{List, [], _++_}
-use lib.ListN.{length, take}
+use lib.ListN.{take}
 use Rattle.defs.specs.Pinned.{Pinned}
 use Rattle.defs.specs.Reading.{Hold}
 use Rattle.defs.specs.declared.answer.Answer.{Answer}
 use Rattle.txbuf.specs.Record.{held}
 use Rattle.connection.specs.Record.{soundConn, soundOver, quiet, creditOf}
-use Rattle.connection.specs.Open.{Opening, OpenLeft, PeerInitSays, LocalInitSays}
+use Rattle.connection.specs.Open.{Opening, ConnLeft, PeerInitSays, LocalInitSays}
 use Rattle.connection.specs.Look.{FlagLeft, PendingSays, Timed, WillExpireSays, HasExpiredSays, ExpiryLeft, ExpirySays, StateLeft, StateSays, EvSetLeft, EvSetSays, KillSays}
-use Rattle.connection.specs.Raw.{rawDoor, RawIn, RawLeft, RawSays}
-use Rattle.connection.specs.Receive.{recvDoor, RecvIn, RecvLeft, RecvSays}
-use Rattle.connection.specs.Send.{sendDoor, SendIn, SendLeft, SendSays, accepted}
-use Rattle.connection.specs.Notify.{notifyDoor, NotifyIn, NotifyLeft, NotifySays}
-use Rattle.connection.specs.Offer.{sendWrites, sendOffered, sendOffers, AskedLeft, recvAsked, recvTaken, recvAsks, notifyOffered, notifyOffers, notifyFirst, notifySecond, rawOffered}
+use Rattle.connection.specs.Raw.{RawIn, RawLeft, RawSays}
+use Rattle.connection.specs.Receive.{RecvIn, RecvLeft, RecvSays}
+use Rattle.connection.specs.Send.{SendIn, SendLeft, SendSays, accepted}
+use Rattle.connection.specs.Notify.{NotifyIn, NotifyLeft, NotifySays}
+use Rattle.connection.specs.Offer.{Given, AskedLeft, sendOffers, recvTaken, recvAsks, notifyOffered, notifyOffers, notifyFirst, notifySecond, SendDoorSays, SendWritesSays, SendOfferedSays, RecvDoorSays, RecvAskedSays, NotifyDoorSays, NotifyOfferedSays, NotifyNextSays, RawDoorSays, RawOfferedSays}
 use Rattle.connection.specs.Moves.{Numbers, account, sendTaken, notifyTaken, Moved}
 use Rattle.connection.specs.Edges.{readingA, readingBCD, readingE, readingF, readingG, readingH, readingI}
 use Rattle.connection.specs.declared.record.VsockConnection.{VsockConnection}
@@ -52,7 +52,7 @@ abbrev pub ReceiveKeeps : Type 0
 ReceiveKeeps = (i : RecvIn) (left : RecvLeft) → RecvSays i left → account (left .conn) ≡ account (i .conn)
 
 abbrev pub KillKeeps : Type 0
-KillKeeps = (c : VsockConnection) (left : OpenLeft) → KillSays c left → account (left .conn) ≡ account c
+KillKeeps = (c : VsockConnection) (left : ConnLeft) → KillSays c left → account (left .conn) ≡ account c
 
 -- 01's readings at the edges of this crate
 pub record EdgesHold : Type 0 where
@@ -64,41 +64,32 @@ pub record EdgesHold : Type 0 where
   pub h : Hold readingH
   pub i : Hold readingI
 
--- what a call is given besides the stream's answers
-pub record Given : Type 0 where
-  pub conn : VsockConnection
-  pub store : List ℕ
-  pub hdr : List ℕ
-  pub present : Bool
-  pub buf : List ℕ
-  pub clock : ℕ
-
 -- every public call: any two outcomes that meet its contract are identical
 pub record EachCallPinned : Type 0 where
   pub is-sound : Pinned VsockConnection Bool (λ c r. r ≡ soundConn c)
   pub is-sound-over : Pinned (VsockConnection × ℕ) Bool (λ i r. r ≡ soundOver (i .0) (i .1))
   pub is-quiet : Pinned VsockConnection Bool (λ c r. r ≡ quiet c)
   pub credit : Pinned VsockConnection ℕ (λ c r. r ≡ creditOf c)
-  pub new-peer-init : Pinned Opening OpenLeft PeerInitSays
-  pub new-local-init : Pinned Opening OpenLeft LocalInitSays
+  pub new-peer-init : Pinned Opening ConnLeft PeerInitSays
+  pub new-local-init : Pinned Opening ConnLeft LocalInitSays
   pub has-pending-rx : Pinned VsockConnection FlagLeft PendingSays
   pub will-expire : Pinned Timed FlagLeft WillExpireSays
   pub has-expired : Pinned Timed FlagLeft HasExpiredSays
   pub expiry : Pinned VsockConnection ExpiryLeft ExpirySays
   pub state : Pinned VsockConnection StateLeft StateSays
   pub get-polled-evset : Pinned VsockConnection EvSetLeft EvSetSays
-  pub kill : Pinned VsockConnection OpenLeft KillSays
+  pub kill : Pinned VsockConnection ConnLeft KillSays
   pub send-bytes-raw : Pinned RawIn RawLeft RawSays
   pub recv-pkt : Pinned RecvIn RecvLeft RecvSays
   pub send-pkt : Pinned SendIn SendLeft SendSays
   pub notify : Pinned NotifyIn NotifyLeft NotifySays
-  pub send-door : Pinned Given Answer (λ g r. r ≡ sendDoor (g .conn) (length (g .store)) (g .hdr) (g .present) (length (g .buf)) (g .clock))
-  pub send-writes : Pinned Given Bool (λ g r. r ≡ sendWrites (g .conn) (length (g .store)) (g .hdr) (g .present) (length (g .buf)) (g .clock))
-  pub send-offered : Pinned Given (List ℕ) (λ g r. r ≡ sendOffered (g .conn) (length (g .store)) (g .hdr) (g .present) (g .buf) (g .clock))
-  pub recv-door : Pinned Given Answer (λ g r. r ≡ recvDoor (g .conn) (length (g .hdr)) (g .present) (length (g .buf)) (g .clock))
-  pub recv-asked : Pinned Given AskedLeft (λ g r. r ≡ recvAsked (g .conn) (length (g .hdr)) (g .present) (length (g .buf)) (g .clock))
-  pub notify-door : Pinned Given Answer (λ g r. r ≡ notifyDoor (g .conn) (length (g .store)))
-  pub notify-offered : Pinned (Given × Bool) (List ℕ) (λ g r. r ≡ notifyFirst (g .0 .conn) (g .1) (g .0 .store))
-  pub notify-offered-next : Pinned (Given × Bool) (List ℕ) (λ g r. r ≡ notifySecond (g .0 .conn) (g .1) (g .0 .store))
-  pub raw-door : Pinned Given Answer (λ g r. r ≡ rawDoor (g .conn) (length (g .buf)))
-  pub raw-offered : Pinned Given (List ℕ) (λ g r. r ≡ rawOffered (g .conn) (g .buf))
+  pub send-door : Pinned Given Answer SendDoorSays
+  pub send-writes : Pinned Given Bool SendWritesSays
+  pub send-offered : Pinned Given (List ℕ) SendOfferedSays
+  pub recv-door : Pinned Given Answer RecvDoorSays
+  pub recv-asked : Pinned Given AskedLeft RecvAskedSays
+  pub notify-door : Pinned Given Answer NotifyDoorSays
+  pub notify-offered : Pinned (Given × Bool) (List ℕ) NotifyOfferedSays
+  pub notify-offered-next : Pinned (Given × Bool) (List ℕ) NotifyNextSays
+  pub raw-door : Pinned Given Answer RawDoorSays
+  pub raw-offered : Pinned Given (List ℕ) RawOfferedSays

@@ -1,7 +1,7 @@
 // The calls that look at a connection or end it: none needs its storage or its stream.
 ghost use mathlib.Core.Path.{_≡_};
 ghost use Rattle.defs.specs.Answer.{told};
-ghost use Rattle.connection.specs.Open.{OpenLeft};
+ghost use Rattle.connection.specs.Open.{ConnLeft};
 ghost use Rattle.connection.specs.Look.{isPending, after, due, Timed, FlagLeft, PendingSays, WillExpireSays, HasExpiredSays, ExpiryLeft, ExpirySays, StateLeft, StateSays, EvSetLeft, EvSetSays, KillSays};
 use crate::record::Outcome;
 use crate::record::PendingRxSet;

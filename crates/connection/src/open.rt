@@ -1,7 +1,7 @@
 // Opening a connection, from either side.
 ghost use mathlib.Core.Path.{_≡_};
 ghost use Rattle.defs.specs.Answer.{told};
-ghost use Rattle.connection.specs.Open.{Opening, OpenLeft, openAnswer, freshOf, zeroConn, PeerInitSays, LocalInitSays};
+ghost use Rattle.connection.specs.Open.{Opening, ConnLeft, openAnswer, freshOf, zeroConn, PeerInitSays, LocalInitSays};
 use crate::record::Outcome;
 use crate::record::PendingRxSet;
 use crate::record::Settings;

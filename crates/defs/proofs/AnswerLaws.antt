@@ -6,6 +6,7 @@ use Prim.Native.Nat.{ℕ}
 use lib.Dec.{eqb}
 use denote.Enum.Declared.{tagOf}
 use types.Run.{OneOf, miss}
+use borrow.Author.Tests.{eq-eqb}
 use Rattle.defs.proofs.answer.Answer.{the-type}
 use Rattle.defs.specs.Choice.{when}
 use Rattle.defs.specs.Answer.{Told, told, isDone, whenDone}
@@ -56,6 +57,11 @@ is-done TxBufFull e = absurd (never e)
 is-done StreamBlocked e = absurd (never e)
 is-done StreamFailed e = absurd (never e)
 is-done NotQueued e = absurd (never e)
+
+-- number 0 is done's alone
+pub number-zero : (a : Answer) → told a .number ≡ 0 → a ≡ Done
+unfolding isDone
+number-zero a e = is-done a (eq-eqb _ 0 e)
 
 pub when-done {ℓ} : {A : Type ℓ} (a : Answer) (x y : A) → a ≡ Done → whenDone a x y ≡ x
 unfolding whenDone

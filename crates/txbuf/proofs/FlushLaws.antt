@@ -723,6 +723,21 @@ flush-progresses i left n w says done e l =
 pub first-piece-is-oldest : FirstPieceIsOldest
 first-piece-is-oldest b store w s = piece-held b store (sound-says b (length store) s) w
 
+-- what a flush that is done answers
+pub flushed-told : (i : FlushIn) → flushAnswer i ≡ Done → flushOf i .answer ≡ told Done
+flushed-told i d = flush-told i ∙ ap told d
+
+-- a flush leaves 32-bit counters
+pub flush-wide : (i : FlushIn) (left : FlushLeft) → Wide (i .ring) → FlushSays i left → Wide (left .ring)
+unfolding flushOf flushDone flushKept
+flush-wide i left w says =
+    rw says
+    (⊎-elim
+    (λ (t : isDone (flushAnswer i) ≡ true).
+    rw (when-done (flushAnswer i) (flushDone i) (flushKept i) (is-done _ t)) (record { head = w .head; tail = mod-lt (i .ring .tail + flushCount i) (omega arith) }))
+    (λ (t : isDone (flushAnswer i) ≡ false). rw (when-not-done (flushAnswer i) (flushDone i) (flushKept i) t) w)
+    (true-or-false (isDone (flushAnswer i))))
+
 -- ---- both pieces
 
 -- a piece is no longer than a ring

@@ -1,0 +1,284 @@
+-- The flags of PeerClosed only grow over a run. A RESPONSE, which opens a connection, is pending only in PeerInit or once killed, and that is
+-- what a run keeps. Assumes nothing.
+use Prim.Native.Nat.{ℕ}
+use mathlib.Core.Path.{_≡_, refl, sym, ap, subst, _∙_}
+use mathlib.Core.Logic.{_⊎_, inl, inr, ⊎-elim}
+use mathlib.Core.Bool.{Bool, true, false, not, _&&_, _||_}
+use mathlib.Core.List.{List}
+use lib.Dec.{eqb}
+use Rattle.defs.specs.Choice.{when}
+use Rattle.defs.specs.Answer.{isDone, whenDone}
+use Rattle.defs.specs.declared.stream.ReadAnswer.{ReadAnswer}
+use Rattle.defs.specs.declared.stream.ReadAnswer.the-variants.{Count, WouldBlock, Failed}
+use Rattle.defs.proofs.Basics.{never, both, true-or-false}
+use Rattle.defs.proofs.ChoiceLaws.{when-true, when-false}
+use Rattle.packet.specs.Uapi.{opResponse, opShutdown, opRw, opCreditRequest}
+use Rattle.packet.specs.declared.hdr.VsockPacketHdr.{VsockPacketHdr}
+use Rattle.txbuf.specs.declared.record.TxBuf.{TxBuf}
+use Rattle.connection.specs.State.{gives, isLocalInit, shutBy, bothOff}
+use Rattle.connection.specs.Record.{quiet, creditOf, withState, killedOf}
+use Rattle.connection.specs.Open.{Opening, ConnLeft, freshOf, zeroConn, openAnswer, peerInitOf, localInitOf}
+use Rattle.connection.specs.Look.{lookAnswer, killOf}
+use Rattle.connection.specs.Receive.{readStep, isEnd, dataStep, updateStep, nextStep, rowOf, afterwards, spokenOf, receivedOf, RecvIn, refusalOf, saidBy, recvDone, recvKept, recvOf}
+use Rattle.connection.specs.Send.{failed, recvOff, sendOff, heardOf, movedOf, updatedOf, onResponse, onShutdown, onCreditRequest, onData, ruleOf, SendIn, pktOf, sendPlan, sendAnswer, sendKills, sendCarried, sendDone, sendKept, sendOf}
+use Rattle.connection.specs.Notify.{seenOf, settledOf, drainedOf, NotifyIn, due, flushed, notifyAnswer, notifyDone, notifyKept, notifyOf}
+use Rattle.connection.specs.Runs.{Event, sends, receives, notifies, kills, looks, after, Made, Steps, none, then, Opens, Grown, grown, closed, dead, FlagsOnlyGrow}
+use Rattle.connection.specs.declared.receive.After.{After}
+use Rattle.connection.specs.declared.receive.After.the-variants.{Same, Closes}
+use Rattle.connection.specs.declared.receive.RxStep.{RxStep}
+use Rattle.connection.specs.declared.receive.RxStep.the-variants.{Rst, Response, Request}
+use Rattle.connection.specs.declared.record.PendingRxSet.{PendingRxSet}
+use Rattle.connection.specs.declared.record.VsockConnection.{VsockConnection}
+use Rattle.connection.specs.declared.send.SendPlan.{SendPlan}
+use Rattle.connection.specs.declared.state.ConnState.{ConnState}
+use Rattle.connection.specs.declared.state.ConnState.the-variants.{LocalInit, PeerInit, Established, LocalClosed, PeerClosed, Killed}
+
+-- ---- what may follow a state
+
+data Follows (s : ConnState) : ConnState → Type 0 where
+  stays : Follows s s
+  dies : Follows s Killed
+  opens : isLocalInit s ≡ true → Follows s Established
+  shuts : (a b : Bool) → Follows s (shutBy s a b)
+
+or-left : (a b : Bool) → a ≡ true → a || b ≡ true
+or-left a b e = rw e
+
+grows : (r q : Bool) (s d : ConnState) → Follows s d → s ≡ PeerClosed r q → Grown r q d
+grows r q s d stays e = rw e (grown r q (λ x. x) (λ x. x))
+grows r q s d dies e = dead
+grows r q s d (opens t) e = absurd (never (sym (ap isLocalInit e) ∙ t))
+grows r q s d (shuts a b) e = rw e (grown (r || a) (q || b) (or-left r a) (or-left q b))
+
+-- where a RESPONSE may be pending
+abbrev Early : ConnState → Type 0
+Early s = (s ≡ PeerInit) ⊎ (s ≡ Killed)
+
+early-on : (s d : ConnState) → Follows s d → Early s → Early d
+early-on s d stays e = e
+early-on s d dies e = inr refl
+early-on s d (opens t) e = ⊎-elim (λ (x : s ≡ PeerInit). absurd (never (sym (ap isLocalInit x) ∙ t))) (λ (x : s ≡ Killed). absurd (never (sym (ap isLocalInit x) ∙ t))) e
+early-on s d (shuts a b) e = ⊎-elim (λ (x : s ≡ PeerInit). inl (ap (λ (y : ConnState). shutBy y a b) x)) (λ (x : s ≡ Killed). inr (ap (λ (y : ConnState). shutBy y a b) x)) e
+
+-- one record follows another: the state does, and no RESPONSE has become pending
+record Next (c d : VsockConnection) : Type 0 where
+  response : d .«pending_rx» .response ≡ c .«pending_rx» .response
+  state : Follows (c .state) (d .state)
+
+same : (c : VsockConnection) → Next c c
+same c = record { response = refl; state = stays }
+
+choose : (c x y : VsockConnection) (b : Bool) → (b ≡ true → Next c x) → Next c y → Next c (when b x y)
+choose c x y b p q =
+    ⊎-elim
+    (λ (t : b ≡ true). rw (when-true x y _ t) (p t))
+    (λ (t : b ≡ false). rw (when-false x y _ t) q)
+    (true-or-false b)
+
+-- ---- packets
+
+after-move : (c : VsockConnection) (ring : TxBuf) (n : ℕ) → Next c (movedOf c ring n)
+unfolding movedOf
+after-move c ring n = record { response = refl; state = stays }
+
+killed-moved : (c : VsockConnection) (ring : TxBuf) (n : ℕ) → Next c (killedOf (movedOf c ring n))
+unfolding movedOf killedOf withState
+killed-moved c ring n = record { response = refl; state = dies }
+
+updated-moved : (c : VsockConnection) (ring : TxBuf) (n : ℕ) → Next c (updatedOf (movedOf c ring n))
+unfolding movedOf updatedOf withState
+updated-moved c ring n = record { response = refl; state = stays }
+
+by-data : (c : VsockConnection) (p : SendPlan) (breaks : Bool) (ring : TxBuf) → Next c (onData c p breaks ring)
+unfolding onData
+by-data c p breaks ring = choose c _ _ (p .goes) (λ t. choose c _ _ breaks (λ k. killed-moved c ring (p .written)) (updated-moved c ring (p .written))) (same c)
+
+by-response : (c : VsockConnection) → Next c (onResponse c)
+unfolding onResponse withState
+by-response c = choose c _ _ (isLocalInit (c .state)) (λ t. record { response = refl; state = opens t }) (same c)
+
+by-shutdown : (c : VsockConnection) (flags clock : ℕ) → Next c (onShutdown c flags clock)
+unfolding onShutdown withState
+by-shutdown c flags clock = record { response = refl; state = shuts (recvOff flags) (sendOff flags) }
+
+by-request : (c : VsockConnection) → Next c (onCreditRequest c)
+unfolding onCreditRequest withState
+by-request c = record { response = refl; state = stays }
+
+by-rule : (c : VsockConnection) (pkt : VsockPacketHdr) (p : SendPlan) (breaks : Bool) (ring : TxBuf) (clock : ℕ) → Next c (ruleOf c pkt p breaks ring clock)
+unfolding ruleOf
+by-rule c pkt p breaks ring clock =
+    choose c _ _ (eqb (pkt .op) opResponse) (λ t. by-response c)
+    (choose c _ _ (eqb (pkt .op) opShutdown) (λ t. by-shutdown c (pkt .flags) clock)
+    (choose c _ _ (eqb (pkt .op) opRw) (λ t. by-data c p breaks ring) (choose c _ _ (eqb (pkt .op) opCreditRequest) (λ t. by-request c) (same c))))
+
+heard : (c d : VsockConnection) (pkt : VsockPacketHdr) → Next (heardOf c pkt) d → Next c d
+unfolding heardOf
+heard c d pkt n = record { response = n .response; state = n .state }
+
+by-packet : (i : SendIn) → Next (i .conn) (sendOf i .conn)
+unfolding sendOf sendDone sendKept whenDone
+by-packet i =
+    ⊎-elim
+    (λ (t : isDone (sendAnswer i) ≡ true). rw (when-true (sendDone i) (sendKept i) _ t) (heard (i .conn) _ (pktOf i) (by-rule (heardOf (i .conn) (pktOf i)) (pktOf i) (sendPlan i) (sendKills i) (sendCarried i .ring) (i .clock))))
+    (λ (t : isDone (sendAnswer i) ≡ false). rw (when-false (sendDone i) (sendKept i) _ t) (same (i .conn)))
+    (true-or-false (isDone (sendAnswer i)))
+
+-- ---- events and kills
+
+seen : (c d : VsockConnection) (readable : Bool) → Next (seenOf c readable) d → Next c d
+unfolding seenOf withState
+seen c d readable n = record { response = n .response; state = n .state }
+
+settled : (c d : VsockConnection) → Next c d → Next c (settledOf d)
+unfolding settledOf updatedOf withState
+settled c d n =
+    choose c _ _ (bothOff (d .state) && quiet d) (λ t. record { response = n .response; state = n .state }) (record { response = n .response; state = n .state })
+
+by-drain : (c : VsockConnection) (ring : TxBuf) (n : ℕ) (fails : Bool) → Next c (drainedOf c ring n fails)
+unfolding drainedOf
+by-drain c ring n fails = settled c _ (choose c _ _ fails (λ t. killed-moved c ring n) (after-move c ring n))
+
+by-event : (i : NotifyIn) → Next (i .conn) (notifyOf i .conn)
+unfolding notifyOf notifyDone notifyKept whenDone
+by-event i =
+    ⊎-elim
+    (λ (t : isDone (notifyAnswer i) ≡ true).
+    rw (when-true (notifyDone i) (notifyKept i) _ t)
+    (choose (i .conn) _ _ (due i) (λ u. seen (i .conn) _ (i .readable) (by-drain (seenOf (i .conn) (i .readable)) (flushed i .ring) (flushed i .count) (failed (i .answers .first))))
+    (seen (i .conn) _ (i .readable) (same _))))
+    (λ (t : isDone (notifyAnswer i) ≡ false). rw (when-false (notifyDone i) (notifyKept i) _ t) (same (i .conn)))
+    (true-or-false (isDone (notifyAnswer i)))
+
+by-kill : (c : VsockConnection) → Next c (killOf c .conn)
+unfolding killOf killedOf withState whenDone
+by-kill c = choose c _ _ (isDone (lookAnswer c)) (λ t. record { response = refl; state = dies }) (same c)
+
+-- ---- turns to speak
+
+-- only a RESPONSE opens
+data NotOpening : After → Type 0 where
+  same-state : NotOpening Same
+  closes-state : NotOpening Closes
+
+no-opening : (request w up blocked present u : Bool) (a : ReadAnswer)
+    → NotOpening (rowOf (when request Request (when w (dataStep up blocked present (readStep a (isEnd a) (updateStep u))) (updateStep u))) .after)
+unfolding when
+no-opening true w up blocked present u a = same-state
+no-opening false false up blocked present true a = same-state
+no-opening false false up blocked present false a = same-state
+no-opening false true false blocked present u a = same-state
+no-opening false true true true present u a = same-state
+no-opening false true true false false u a = same-state
+no-opening false true true false true u (Count n) = by-count (eqb n 0)
+  where
+    by-count : (end : Bool) → NotOpening (rowOf (readStep (Count n) end (updateStep u)) .after)
+    by-count true = closes-state
+    by-count false = same-state
+no-opening false true true false true true WouldBlock = same-state
+no-opening false true true false true false WouldBlock = same-state
+no-opening false true true false true u Failed = same-state
+
+-- ---- what a run keeps
+
+abbrev Fit : VsockConnection → Type 0
+Fit c = c .«pending_rx» .response ≡ true → Early (c .state)
+
+record Turned (c d : VsockConnection) : Type 0 where
+  fits : Fit c → Fit d
+  grow : Fit c → (r q : Bool) → c .state ≡ PeerClosed r q → Grown r q (d .state)
+
+turned : (c d : VsockConnection) → Next c d → Turned c d
+turned c d n = record {
+  fits = λ f e. early-on (c .state) (d .state) (n .state) (f (sym (n .response) ∙ e));
+  grow = λ f r q e. grows r q (c .state) (d .state) (n .state) e;
+}
+
+abbrev isPeerClosed : ConnState → Bool
+isPeerClosed LocalInit = false
+isPeerClosed PeerInit = false
+isPeerClosed Established = false
+isPeerClosed LocalClosed = false
+isPeerClosed (PeerClosed a b) = true
+isPeerClosed Killed = false
+
+not-early : (s : ConnState) (r q : Bool) → s ≡ PeerClosed r q → Early s → ⊥
+not-early s r q e =
+    ⊎-elim
+    (λ (x : s ≡ PeerInit). never (ap isPeerClosed (sym x ∙ e)))
+    (λ (x : s ≡ Killed). never (ap isPeerClosed (sym x ∙ e)))
+
+-- a turn that does not open
+unopened : (x : After) (s d : ConnState) (r q : Bool) → NotOpening x → d ≡ afterwards x s → s ≡ PeerClosed r q → Grown r q d
+unopened Same s d r q same-state e f = grows r q s d (subst (Follows s) (sym e) stays) f
+unopened Closes s d r q closes-state e f = subst (Grown r q) (sym e) closed
+
+by-turn : (c d : VsockConnection) (x : After) (rst : Bool) → d .state ≡ afterwards x (c .state) → d .«pending_rx» .response ≡ c .«pending_rx» .response && rst
+    → (rst ≡ true → x ≡ Same) → (rst ≡ false → c .«pending_rx» .response ≡ false → NotOpening x) → Turned c d
+by-turn c d x rst s p first other = record {
+  fits = λ f e.
+      let b = both (c .«pending_rx» .response) rst (sym p ∙ e) in
+      let z : d .state ≡ c .state = s ∙ ap (λ (y : After). afterwards y (c .state)) (first (b .1)) in
+      rw z (f (b .0));
+  grow = λ f r q e.
+      ⊎-elim
+      (λ (t : rst ≡ true). unopened x (c .state) (d .state) r q (rw (first t) same-state) s e)
+      (λ (t : rst ≡ false).
+      ⊎-elim
+      (λ (u : c .«pending_rx» .response ≡ true). absurd (not-early (c .state) r q e (f u)))
+      (λ (u : c .«pending_rx» .response ≡ false). unopened x (c .state) (d .state) r q (other t u) s e)
+      (true-or-false (c .«pending_rx» .response)))
+      (true-or-false rst);
+}
+
+spoke : (i : RecvIn) → Turned (i .conn) (recvDone i .conn)
+unfolding recvDone receivedOf spokenOf nextStep
+spoke i =
+    let p = i .conn .«pending_rx» in
+    by-turn (i .conn) (recvDone i .conn) (saidBy i .after) (p .rst) refl refl
+    (λ t. ap (λ (s : RxStep). rowOf s .after) (when-true Rst _ _ t))
+    (λ t u.
+    subst (λ (s : RxStep). NotOpening (rowOf s .after)) (sym (when-false Rst _ _ t ∙ when-false Response _ _ u))
+    (no-opening (p .request) (p .rw) (gives (i .conn .state)) (eqb (creditOf (i .conn)) 0) (i .present) (p .«credit_update») (i .answer)))
+
+by-receive : (i : RecvIn) → Turned (i .conn) (recvOf i .conn)
+unfolding recvOf recvKept whenDone
+by-receive i =
+    ⊎-elim
+    (λ (t : isDone (refusalOf i) ≡ true). rw (when-true (recvDone i) (recvKept i) _ t) (spoke i))
+    (λ (t : isDone (refusalOf i) ≡ false). rw (when-false (recvDone i) (recvKept i) _ t) (turned _ _ (same (i .conn))))
+    (true-or-false (isDone (refusalOf i)))
+
+-- ---- every run
+
+by-call : (c : VsockConnection) (store : List ℕ) (e : Event) → Made c store e → Turned c (after e)
+by-call c store (sends i o) m = rw (← (m .0), m .2) (turned _ _ (by-packet i))
+by-call c store (receives i o) m = rw (← (m .0), m .1) (by-receive i)
+by-call c store (notifies i o) m = rw (← (m .0), m .2) (turned _ _ (by-event i))
+by-call c store (kills d o) m = rw (← (m .0), m .1) (turned _ _ (by-kill d))
+by-call c store (looks l) m = rw (m .0) (turned _ _ (same c))
+
+fits-on : {c : VsockConnection} {store : List ℕ} {t : List Event} {d : VsockConnection} {s : List ℕ} → Fit c → Steps c store t d s → Fit d
+fits-on f none = f
+fits-on f (then {t} {d} {s} r e m) = by-call d s e m .fits (fits-on f r)
+
+fresh-fits : (o : Opening) (state : ConnState) (p : PendingRxSet) → (p .response ≡ true → Early state) → Fit (freshOf o state p)
+unfolding freshOf
+fresh-fits o state p f = f
+
+fit-either : (b : Bool) (x y : VsockConnection) → Fit x → Fit y → Fit (when b x y)
+fit-either b x y p q =
+    ⊎-elim
+    (λ (t : b ≡ true). subst Fit (sym (when-true x y _ t)) p)
+    (λ (t : b ≡ false). subst Fit (sym (when-false x y _ t)) q)
+    (true-or-false b)
+
+opening-fits : (guest : Bool) (o : Opening) (left : ConnLeft) → Opens guest o left → Fit (left .conn)
+unfolding peerInitOf localInitOf zeroConn whenDone
+opening-fits true o left e =
+    rw e (fit-either (isDone (openAnswer (o .size) (o .settings))) _ _ (fresh-fits o PeerInit _ (λ x. inl refl)) (fresh-fits _ LocalInit _ (λ x. absurd (never x))))
+opening-fits false o left e =
+    rw e (fit-either (isDone (openAnswer (o .size) (o .settings))) _ _ (fresh-fits o LocalInit _ (λ x. absurd (never x))) (fresh-fits _ LocalInit _ (λ x. absurd (never x))))
+
+pub flags-only-grow : FlagsOnlyGrow
+flags-only-grow s t c store r e m = by-call c store e m .grow (fits-on (opening-fits (s .guest) (s .given) (s .left) (r .opened)) (r .steps))

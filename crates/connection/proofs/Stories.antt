@@ -1,0 +1,126 @@
+-- The stories of specs/Stories: each is a run, each theorem is applied to it, and what it comes to is computed. Assumes nothing.
+use mathlib.Core.Path.{_≡_, refl, sym, _∙_}
+use mathlib.Core.Bool.{true, false}
+use mathlib.Core.List.{[], _∷_}
+use native.Mathlib.Omega.{arith}
+use Rattle.defs.specs.Choice.{when}
+use Rattle.defs.specs.Answer.{isDone, whenDone}
+use Rattle.defs.specs.Limits.{isRingSize, isThreshold, isTimeout, isClock, isPacketLength, isHeaderLength}
+use Rattle.defs.specs.Ladder.{doorOf, lateOf, lowestOf, recordAnswer, clockAnswer}
+use Rattle.defs.specs.Copying.{copied}
+use Rattle.defs.specs.Credit.{peerAvailCredit, peerNeedsCreditUpdate}
+use Rattle.packet.specs.Header.{encoded, decoded}
+use Rattle.packet.specs.Edges.{bytesA}
+use Rattle.txbuf.specs.Record.{usedOf, soundRecord, soundOf, heldFrom, held}
+use Rattle.txbuf.specs.Push.{runs, pushDone}
+use Rattle.txbuf.specs.Flush.{takenBy, overBy, endsBy, flushCount, flushOver, flushAnswer, flushDone, flushKept, flushOf}
+use Rattle.connection.specs.Record.{okSettings, soundConn, soundOver, quiet, creditOf, withState, killedOf}
+use Rattle.connection.specs.Notify.{seenOf, absorbed, settledOf, drainedOf, notifyDoor, notifyAnswer, notifyDone, notifyKept, notifyOf}
+use Rattle.connection.specs.Open.{freshOf, openAnswer, peerInitOf}
+use Rattle.connection.specs.Moves.{sendTaken, notifyTaken}
+use Rattle.connection.specs.Receive.{nextStep, spokenOf, receivedOf, headerOf, recvDoor, readsOf, recvRefusal, recvDone, recvKept, recvOf}
+use Rattle.connection.specs.Send.{heardOf, movedOf, updatedOf, onShutdown, onData, ruleOf, goesOf, planOf, killsOf, sendDoorOf, sendLate, carried, sendDoor, sendAnswer, sendDone, sendKept, sendOf, accepted}
+use Rattle.connection.specs.Runs.{before, after, storeAfter, Steps, none, then, Run, tookBy, acceptedBy, deliveredBy, gathered, outs, Pushless}
+use Rattle.connection.specs.Stories.{startA, a1, a2, a3, a4, a5, a6, a7, storeA, storyA, upToA5, endStoreA, startB, b1, b2, b3, b4, storyB, endStoreB, c3, c4, storyC, endStoreC, d2, storeD, d3, d4, d5, draining, ten, StoriesHold}
+use Rattle.connection.specs.declared.state.ConnState.the-variants.{PeerClosed, Killed}
+use Rattle.connection.proofs.RunLaws.{every-run-forwards, cuts-do-not-matter}
+use Rattle.connection.proofs.FlagLaws.{flags-only-grow}
+use Rattle.connection.proofs.DrainLaws.{drains}
+
+up-to-a2 : Steps (startA .left .conn) (startA .store) (a2 ∷ a1 ∷ []) (after a2) storeA
+up-to-a2 = then (then none a1 (refl, refl)) a2 (refl, refl, refl)
+
+up-to-a5 : Run startA upToA5 (after a5) (storeAfter (storeAfter storeA a3) a5)
+up-to-a5 = record { opened = refl; steps = then (then (then up-to-a2 a3 (refl, refl, refl)) a4 (refl, refl, refl)) a5 (refl, refl, refl) }
+
+run-a : Run startA storyA (after a7) endStoreA
+run-a = record { opened = refl; steps = then (then (up-to-a5 .steps) a6 (refl, refl, refl)) a7 (refl, refl, refl) }
+
+run-b : Run startB storyB (after b4) endStoreB
+run-b = record {
+  opened = refl;
+  steps = then (then (then (then none b1 (refl, refl)) b2 (refl, refl, refl)) b3 (refl, refl, refl)) b4 (refl, refl, refl);
+}
+
+run-c : Run startA storyC (after c4) endStoreC
+run-c = record { opened = refl; steps = then (then up-to-a2 c3 (refl, refl, refl)) c4 (refl, refl, refl) }
+
+up-to-d2 : Run startA (d2 ∷ a1 ∷ []) (after d2) storeD
+up-to-d2 = record { opened = refl; steps = then (then none a1 (refl, refl)) d2 (refl, refl, refl) }
+
+drain-steps : Steps (after d2) storeD draining (after d5) storeD
+drain-steps = then (then (then none d3 (refl, refl, refl)) d4 (refl, refl)) d5 (refl, refl, refl)
+
+-- ---- what the stories come to
+
+record Computed : Type 0 where
+  taken-a : gathered tookBy storyA ≡ ten
+  accepted-a : gathered acceptedBy storyA ≡ ten
+  empty-a : usedOf (after a7 .«tx_buf») ≡ 0
+  taken-b : gathered tookBy storyB ≡ ten
+  accepted-b : gathered acceptedBy storyB ≡ ten
+  empty-b : usedOf (after b4 .«tx_buf») ≡ 0
+  taken-c : gathered tookBy storyC ≡ ten
+  accepted-c : gathered acceptedBy storyC ≡ ten
+  empty-c : usedOf (after c4 .«tx_buf») ≡ 0
+  killed-c : after c3 .state ≡ Killed
+  refused-a : after a3 ≡ before a3
+  half-off : after a5 .state ≡ PeerClosed true false
+  both-off : after a6 .state ≡ PeerClosed true true
+  header : gathered deliveredBy storyA ≡ bytesA ∷ []
+  head-2 : after d2 .«tx_buf» .head ≡ 2
+  head-3 : after d3 .«tx_buf» .head ≡ 2
+  head-4 : after d4 .«tx_buf» .head ≡ 2
+  head-5 : after d5 .«tx_buf» .head ≡ 2
+  held-2 : usedOf (after d2 .«tx_buf») ≡ 2
+  outs-2 : outs draining ≡ 2
+
+computed : Computed
+unfolding when isDone whenDone isRingSize isThreshold isTimeout isClock isPacketLength isHeaderLength doorOf lateOf lowestOf recordAnswer clockAnswer copied peerAvailCredit peerNeedsCreditUpdate encoded decoded soundRecord soundOf heldFrom held runs pushDone takenBy overBy endsBy flushCount flushOver flushAnswer flushDone flushKept flushOf okSettings soundConn soundOver quiet creditOf withState killedOf seenOf absorbed settledOf drainedOf notifyDoor notifyAnswer notifyDone notifyKept notifyOf freshOf openAnswer peerInitOf sendTaken notifyTaken nextStep spokenOf receivedOf headerOf recvDoor readsOf recvRefusal recvDone recvKept recvOf heardOf movedOf updatedOf onShutdown onData ruleOf goesOf planOf killsOf sendDoorOf sendLate carried sendDoor sendAnswer sendDone sendKept sendOf accepted gathered outs
+computed = record {
+  taken-a = refl;
+  accepted-a = refl;
+  empty-a = refl;
+  taken-b = refl;
+  accepted-b = refl;
+  empty-b = refl;
+  taken-c = refl;
+  accepted-c = refl;
+  empty-c = refl;
+  killed-c = refl;
+  refused-a = refl;
+  half-off = refl;
+  both-off = refl;
+  header = refl;
+  head-2 = refl;
+  head-3 = refl;
+  head-4 = refl;
+  head-5 = refl;
+  held-2 = refl;
+  outs-2 = refl;
+}
+
+two-drained : usedOf (after d5 .«tx_buf») ≡ 0
+unfolding Pushless
+two-drained =
+    let v = computed in
+    drains startA (d2 ∷ a1 ∷ []) draining (after d2) (after d5) storeD storeD up-to-d2 drain-steps
+    (v .head-5 ∙ sym (v .head-4), (v .head-4 ∙ sym (v .head-3), (v .head-3 ∙ sym (v .head-2), tt)))
+    (omega (arith, v .held-2, v .outs-2))
+
+pub stories-hold : StoriesHold
+stories-hold =
+    let v = computed in
+    record {
+      shut-down = record { run = run-a; forwards = every-run-forwards _ _ _ _ run-a; taken = v .taken-a; accepted = v .accepted-a; empty = v .empty-a };
+      other-cut = record { run = run-b; forwards = every-run-forwards _ _ _ _ run-b; taken = v .taken-b; accepted = v .accepted-b; empty = v .empty-b };
+      killed = record { run = run-c; forwards = every-run-forwards _ _ _ _ run-c; taken = v .taken-c; accepted = v .accepted-c; empty = v .empty-c };
+      is-killed = v .killed-c;
+      refused = v .refused-a;
+      alike = cuts-do-not-matter _ _ _ _ _ _ _ _ run-a run-b (v .accepted-a ∙ sym (v .accepted-b)) (v .empty-a) (v .empty-b);
+      grown = flags-only-grow _ _ _ _ up-to-a5 a6 (refl, refl, refl) true false (v .half-off);
+      both-off = v .both-off;
+      two-held = v .held-2;
+      drained = two-drained;
+      first-header = v .header;
+    }
