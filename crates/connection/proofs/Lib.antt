@@ -1,3 +1,4 @@
+pub mod Edges
 pub mod LookLaws
 pub mod RawLaws
 pub mod RecordLaws
