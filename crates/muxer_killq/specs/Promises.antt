@@ -11,14 +11,15 @@ use Rattle.defs.specs.Pinned.{Pinned}
 use Rattle.defs.specs.Reading.{Hold}
 use Rattle.defs.specs.declared.answer.Answer.{Answer}
 use Rattle.conn_map.specs.Table.{chosen}
-use Rattle.conn_map.specs.Look.{FlagLeft, FlagSays}
+use Rattle.conn_map.specs.Look.{FlagLeft, FlagSays, PeekLeft}
+use Rattle.conn_map.specs.Queued.{QueuedLeft}
 use Rattle.muxer_killq.specs.Item.{zeroItem, isZero, isAlike}
-use Rattle.muxer_killq.specs.Queue.{soundQ, items, pack, QueuedLeft, NewSays}
+use Rattle.muxer_killq.specs.Queue.{soundQ, items, pack, NewSays}
 use Rattle.muxer_killq.specs.Push.{PushIn, PushSays}
-use Rattle.muxer_killq.specs.Pop.{PopIn, PopLeft, PopSays}
+use Rattle.muxer_killq.specs.Pop.{PeekSays, PopIn, PopLeft, PopSays}
 use Rattle.muxer_killq.specs.Sort.{sortByTime}
 use Rattle.muxer_killq.specs.Build.{BuildIn, BuildSays}
-use Rattle.muxer_killq.specs.Edges.{readingI}
+use Rattle.muxer_killq.specs.Edges.{readingI, ties}
 use Rattle.muxer_killq.specs.declared.item.MuxerKillQItem.{MuxerKillQItem}
 use Rattle.muxer_killq.specs.declared.queue.MuxerKillQ.{MuxerKillQ}
 
@@ -46,15 +47,17 @@ pub record SortIsStable (l : List MuxerKillQItem) : Type 0 where
 abbrev pub EverySortIsStable : Type 0
 EverySortIsStable = (l : List MuxerKillQItem) → SortIsStable l
 
--- 01's readings at the edges of this crate
+-- 01's reading at the edge of this crate, and its rule on equal times
 pub record EdgesHold : Type 0 where
   pub i : Hold readingI
+  pub ties : Hold ties
 
 -- every public call: any two outcomes that meet its contract are identical
 pub record EachCallPinned : Type 0 where
-  pub new : Pinned ℕ QueuedLeft NewSays
-  pub from-conn-map : Pinned BuildIn QueuedLeft BuildSays
-  pub push : Pinned PushIn QueuedLeft PushSays
+  pub new : Pinned ℕ (QueuedLeft MuxerKillQ) NewSays
+  pub from-conn-map : Pinned BuildIn (QueuedLeft MuxerKillQ) BuildSays
+  pub push : Pinned PushIn (QueuedLeft MuxerKillQ) PushSays
+  pub peek : Pinned MuxerKillQ (PeekLeft MuxerKillQItem) PeekSays
   pub pop : Pinned PopIn PopLeft PopSays
   pub eq : Pinned (MuxerKillQItem × MuxerKillQItem) Bool (λ i r. r ≡ isAlike (i .0) (i .1))
   pub is-sound : Pinned MuxerKillQ Bool (λ q r. r ≡ soundQ q)
