@@ -5,6 +5,7 @@ use mathlib.Core.List.{List, [], _∷_}
 use Rattle.defs.specs.Reading.{Reading, _reads_}
 use Rattle.conn_map.specs.Table.{soundTable}
 
+-- three slots, told by the number of their ports
 abbrev three : List ℕ
 three = 5 ∷ 7 ∷ 7 ∷ []
 

@@ -15,6 +15,7 @@ pub record FlagLeft : Type 0 where
 unfoldable pub flagOf : Bool → Bool → FlagLeft
 flagOf sound value = record { answer = told (recordAnswer sound); holds = whenDone (recordAnswer sound) value false }
 
+-- THE STATEMENT of a call that tells a yes or no
 abbrev pub FlagSays : Bool → Bool → FlagLeft → Type 0
 FlagSays sound value left = left ≡ flagOf sound value
 
@@ -26,6 +27,7 @@ pub record LenLeft : Type 0 where
 unfoldable pub lenOf : Bool → ℕ → LenLeft
 lenOf sound value = record { answer = told (recordAnswer sound); len = whenDone (recordAnswer sound) value 0 }
 
+-- THE STATEMENT of a call that tells a count
 abbrev pub LenSays : Bool → ℕ → LenLeft → Type 0
 LenSays sound value left = left ≡ lenOf sound value
 

@@ -20,6 +20,7 @@ use Rattle.muxer_killq.specs.declared.queue.MuxerKillQ.{MuxerKillQ}
 abbrev pub isDue : ℕ → Slot → Bool
 isDue clock s = s .used && ltb clock (s .mark)
 
+-- the item of a slot
 abbrev pub itemOf : Slot → MuxerKillQItem
 itemOf s = itemAt (s .key) (s .mark)
 
@@ -50,10 +51,12 @@ buildOf i = madeOf (buildAnswer i) (builtFrom (i .limit) (i .clock) (slotsOf (i 
 abbrev pub BuildSays : BuildIn → QueuedLeft MuxerKillQ → Type 0
 BuildSays i left = left ≡ buildOf i
 
--- ---- within a build: the same before the sort, and the test on the numbers of a slot
+-- ---- within a build
 
+-- the same before the sort
 unfoldable pub collected : ℕ → ℕ → List Slot → MuxerKillQ
 collected limit clock slots = pack (take limit (dueOf clock slots)) limit (leb (length (dueOf clock slots)) limit)
 
+-- `isDue` on the numbers of a slot
 abbrev pub marked : ℕ → ℕ → ℕ → Bool
 marked used clock time = not (eqb used 0) && ltb clock time

@@ -15,6 +15,7 @@ use Rattle.muxer_killq.specs.Sort.{sortByTime}
 use Rattle.muxer_killq.specs.Build.{dueOf}
 use Rattle.muxer_killq.specs.declared.queue.MuxerKillQ.{MuxerKillQ}
 
+-- a queue of limit 1 with one item, at 500
 abbrev key : ConnMapKey
 key = record { «local_port» = 1024; «peer_port» = 5000 }
 
@@ -35,6 +36,7 @@ of n = record { «local_port» = n; «peer_port» = 0 }
 abbrev slot : ℕ → ℕ → Slot
 slot n time = record { used = true; key = of n; mark = time }
 
+-- local port and time of five slots
 abbrev slots : List Slot
 slots = slot 1 700 ∷ slot 2 500 ∷ slot 3 700 ∷ slot 4 600 ∷ slot 5 700 ∷ []
 

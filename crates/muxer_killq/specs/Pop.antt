@@ -30,9 +30,11 @@ pub record PopLeft : Type 0 where
   pub key : ConnMapKey
   pub queue : MuxerKillQ
 
+-- no item: ports 0 beside "not found"
 abbrev pub noKey : ConnMapKey
 noKey = record { «local_port» = 0; «peer_port» = 0 }
 
+-- nothing is given, and the queue is as it was
 abbrev none : Answer → MuxerKillQ → PopLeft
 none answer q = record { answer = told answer; found = false; key = noKey; queue = q }
 
@@ -44,6 +46,7 @@ popList clock (x ∷ l) limit synced =
     (record { answer = told Done; found = true; key = record { «local_port» = x .«local_port»; «peer_port» = x .«peer_port» }; queue = pack l limit synced })
     (none Done (pack (x ∷ l) limit synced))
 
+-- 01's table: 1 where the queue is not sound, then 3
 abbrev pub popAnswerOf : PopIn → Answer
 popAnswerOf i = clockAnswer (soundQ (i .queue)) (i .clock)
 

@@ -29,11 +29,12 @@ pub record QueueIsItsList : Type 0 where
   pub packed-items : (l : List MuxerKillQItem) (limit : ℕ) (synced : Bool) → items (pack l limit synced) ≡ l
   pub sound-packed : (q : MuxerKillQ) → length (q .q) ≡ maxKillq → soundQ q ≡ true → q ≡ pack (items q) (q .limit) (q .synced)
 
--- no item is earlier than the one before it
+-- the first item of a list is not earlier than a time
 abbrev pub NotBefore : ℕ → List MuxerKillQItem → Type 0
 NotBefore time [] = Unit
 NotBefore time (y ∷ l) = time ≤ y .«kill_time»
 
+-- sorted by time
 abbrev pub Sorted : List MuxerKillQItem → Type 0
 Sorted [] = Unit
 Sorted (x ∷ l) = NotBefore (x .«kill_time») l × Sorted l
@@ -44,6 +45,7 @@ pub record SortIsStable (l : List MuxerKillQItem) : Type 0 where
   pub permutes : (test : MuxerKillQItem → Bool) → length (chosen test (sortByTime l)) ≡ length (chosen test l)
   pub stable : (time : ℕ) → chosen (λ (x : MuxerKillQItem). eqb (x .«kill_time») time) (sortByTime l) ≡ chosen (λ (x : MuxerKillQItem). eqb (x .«kill_time») time) l
 
+-- whatever came in
 abbrev pub EverySortIsStable : Type 0
 EverySortIsStable = (l : List MuxerKillQItem) → SortIsStable l
 

@@ -31,6 +31,7 @@ pushList l limit synced it =
     (record { answer = told Done; queue = pack (l ++ (it ∷ [])) limit synced })
     (record { answer = told NotQueued; queue = pack l limit false })
 
+-- of a sound queue; a refusal changes nothing
 unfoldable pub pushOf : PushIn → QueuedLeft MuxerKillQ
 pushOf i =
     calledOf (recordAnswer (soundQ (i .queue)))

@@ -30,5 +30,6 @@ pack l limit synced = record { q = padded maxKillq zeroItem l; len = length l; l
 unfoldable pub newOf : ℕ → QueuedLeft MuxerKillQ
 newOf limit = madeOf (recordAnswer (isKillqLimit limit)) (pack [] limit true) (pack [] 0 true)
 
+-- THE STATEMENT of `new`
 abbrev pub NewSays : ℕ → QueuedLeft MuxerKillQ → Type 0
 NewSays limit left = left ≡ newOf limit

@@ -23,6 +23,7 @@ isPending s = s .used && not (eqb (s .mark) 0)
 abbrev pub connTo : ConnMapKey → MuxerRx
 connTo key = record { rst = false; «local_port» = key .«local_port»; «peer_port» = key .«peer_port» }
 
+-- the item of a slot
 abbrev pub itemOf : Slot → MuxerRx
 itemOf s = connTo (s .key)
 
@@ -52,7 +53,8 @@ buildOf i = madeOf (buildAnswer i) (builtFrom (i .limit) (slotsOf (i .ports) (i 
 abbrev pub BuildSays : BuildIn → QueuedLeft MuxerRxQ → Type 0
 BuildSays i left = left ≡ buildOf i
 
--- ---- within the walk: the test on the numbers of a slot
+-- ---- within the walk
 
+-- `isPending` on the numbers of a slot
 abbrev pub marked : ℕ → ℕ → Bool
 marked used pending = not (eqb used 0) && not (eqb pending 0)

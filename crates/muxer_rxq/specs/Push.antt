@@ -25,6 +25,7 @@ pub record PushIn : Type 0 where
   pub queue : MuxerRxQ
   pub rx : MuxerRx
 
+-- an answer, and the queue of a list
 abbrev left : Answer → List MuxerRx → ℕ → Bool → QueuedLeft MuxerRxQ
 left answer l limit synced = record { answer = told answer; queue = pack l limit synced }
 
@@ -40,6 +41,7 @@ pushList l limit synced rx =
     (left Done (l ++ (rx ∷ [])) limit synced)
     (when (rx .rst) (evictList l limit synced rx) (left NotQueued l limit false))
 
+-- of a sound queue; a refusal changes nothing
 unfoldable pub pushOf : PushIn → QueuedLeft MuxerRxQ
 pushOf i =
     calledOf (recordAnswer (soundQ (i .queue))) (pushList (items (i .queue)) (i .queue .limit) (i .queue .synced) (i .rx)) (i .queue)

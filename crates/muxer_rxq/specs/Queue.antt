@@ -16,6 +16,7 @@ use Rattle.muxer_rxq.specs.declared.queue.MuxerRxQ.{MuxerRxQ}
 abbrev pub zeroItem : MuxerRx
 zeroItem = record { rst = false; «local_port» = 0; «peer_port» = 0 }
 
+-- an item is the zero item
 unfoldable pub isZero : MuxerRx → Bool
 isZero it = (not (it .rst) && eqb (it .«local_port») 0) && eqb (it .«peer_port») 0
 
@@ -37,5 +38,6 @@ pack l limit synced = record { q = padded maxRxq zeroItem l; len = length l; lim
 unfoldable pub newOf : ℕ → QueuedLeft MuxerRxQ
 newOf limit = madeOf (recordAnswer (isRxqLimit limit)) (pack [] limit true) (pack [] 0 true)
 
+-- THE STATEMENT of `new`
 abbrev pub NewSays : ℕ → QueuedLeft MuxerRxQ → Type 0
 NewSays limit left = left ≡ newOf limit
