@@ -5,14 +5,14 @@ use mathlib.Core.Bool.{Bool, true, false}
 use mathlib.Core.List.{List, [], _∷_, _++_, map, append-nil}
 use native.Mathlib.Numerals.{add-one}
 use mathlib.Core.Logic.{⊎-elim}
-use native.Mathlib.Nat.{not-suc-le-zero, eq-or-lt-of-le}
+use native.Mathlib.Nat.{not-suc-le-zero, eq-or-lt-of-le, eq-zero-or-pos}
 use native.Mathlib.Omega.{arith}
-use lib.Dec.{leb}
-use borrow.Author.Tests.{lt-leb, le-leb}
+use lib.Dec.{leb, ltb}
+use borrow.Author.Tests.{lt-leb, le-leb, leb-true, ltb-true}
 use lib.ListN.{length, getD, take, drop, set, replicate, length-map, length-append, length-drop, length-take, length-set, take-append-drop}
 use lib.Seq.{take-suc, drop-cons, set-at, set-append-left, append-snoc, length-take-le, getD-drop, take-append-seam, drop-append-seam, take-at, take-all}
 use Rattle.defs.proofs.Basics.{both}
-use Rattle.conn_map.specs.Places.{padded, all}
+use Rattle.conn_map.specs.Places.{padded, all, soundPlaces, hasRoom}
 
 -- an array of structs in a record is as long as its type says
 pub long : {A B : Type 0} (f : A → B) (l : List A) (n : ℕ) → length (map f l) ≡ n → length l ≡ n
@@ -91,31 +91,101 @@ module _ {A : Type 0} (N : ℕ) (z : A) where
       ∙ ap (λ (t : List A). l ++ (z ∷ t)) (drop-append-seam l R)
       ∙ ap (λ (n : ℕ). l ++ replicate n z) (let e : suc (N - suc (length l)) ≡ N - length l = omega arith in e)
 
--- ---- a pop of places that hold items: the front, the rest, and the rest moved up
+-- ---- what soundness says of N places, whose zero item is z
 
-module _ {A : Type 0} (N : ℕ) (z : A) (places : List A) (len : ℕ) (held : length (take len places) ≡ len) (h : 0 < len) where
-  inside : len ≤ length places
-  inside = omega (arith, length-take len places)
+pub record Sound {A : Type 0} (N : ℕ) (z : A) (places : List A) (len limit : ℕ) : Type 0 where
+  pub most : limit ≤ N
+  pub within : len ≤ limit
+  pub held : length (take len places) ≡ len
+  pub cleared : places ≡ padded N z (take len places)
 
-  pub front-first : take len places ≡ getD places 0 z ∷ take (len - 1) (drop 1 places)
-  front-first = ap (λ (k : ℕ). take k places) (let k : len ≡ suc (len - 1) = omega arith in k) ∙ by places (len - 1) (omega (arith, inside))
-    where
-      by : (l : List A) (k : ℕ) → 0 < length l → take (suc k) l ≡ getD l 0 z ∷ take k (drop 1 l)
-      by [] k e = absurd (not-suc-le-zero e)
-      by (x ∷ l) k e = refl
+module _ {A : Type 0} (N : ℕ) (z : A) (isZero : A → Bool) (limited : Bool) (limit : ℕ) where
+  pub sound-says : ((x : A) → isZero x ≡ true → x ≡ z) → (limited ≡ true → limit ≤ N) → (places : List A) (len : ℕ) → length places ≡ N
+      → soundPlaces isZero limited places len limit ≡ true → Sound N z places len limit
+  unfolding soundPlaces
+  sound-says says most places len n e =
+      let u = both _ _ e in
+      let v = both limited _ (u .0) in
+      let m : limit ≤ N = most (v .0) in
+      let w : len ≤ limit = leb-true _ _ (v .1) in
+      record {
+        most = m;
+        within = w;
+        held = length-take-le len places (omega arith);
+        cleared = places-are N z isZero says places len n (omega arith) (u .1);
+      }
 
-  pub rest-counted : len - 1 ≡ length (take (len - 1) (drop 1 places))
-  rest-counted = sym (length-take-le (len - 1) (drop 1 places) (omega (arith, inside, length-drop 1 places)))
+  all-zero : isZero z ≡ true → (n : ℕ) → all isZero (replicate n z) ≡ true
+  unfolding all
+  all-zero e zero = refl
+  all-zero e (suc n) = rw e (all-zero e n)
 
-  pub moved-up : places ≡ padded N z (take len places) → len ≤ N
-      → set (take (len - 1) (drop 1 places) ++ drop (len - 1) places) (len - 1) z ≡ padded N z (take (len - 1) (drop 1 places))
-  moved-up cleared m =
-      let x : A = getD places 0 z in
-      let rest : List A = take (len - 1) (drop 1 places) in
-      let p : places ≡ padded N z (x ∷ rest) = cleared ∙ ap (padded N z) front-first in
-      ap (λ (l : List A). set (take (len - 1) (drop 1 l) ++ drop (len - 1) l) (len - 1) z) p
-      ∙ ap (λ (k : ℕ). set (take k (drop 1 (padded N z (x ∷ rest))) ++ drop k (padded N z (x ∷ rest))) k z) rest-counted
-      ∙ places-pop N z x rest (omega (arith, rest-counted))
+  pub packed-sound : isZero z ≡ true → limited ≡ true → (l : List A) → length l ≤ limit → soundPlaces isZero limited (padded N z l) (length l) limit ≡ true
+  unfolding soundPlaces
+  packed-sound e f l h = rw (f, le-leb _ _ h, drop-append-seam l (replicate (N - length l) z)) (all-zero e (N - length l))
+
+pub positive : (k : ℕ) → (k ≡ 0 → ⊥) → 0 < k
+positive k z = ⊎-elim (λ (e : k ≡ 0). absurd (z e)) (λ (h : 0 < k). h) (eq-zero-or-pos k)
+
+pub none-held : {A : Type 0} (places : List A) (len : ℕ) → len ≡ 0 → take len places ≡ []
+none-held places len e = rw e
+
+-- ---- calls on the places of a sound queue
+
+module _ {A : Type 0} (N : ℕ) (z : A) (places : List A) (len limit : ℕ) (s : Sound N z places len limit) where
+  pub room-is : (synced b : Bool) → hasRoom synced len limit ≡ b → hasRoom synced (length (take len places)) limit ≡ b
+  room-is synced b t = ap (λ (k : ℕ). hasRoom synced k limit) (s .held) ∙ t
+
+  pub room-within : (synced : Bool) → hasRoom synced len limit ≡ true → len < N
+  unfolding hasRoom
+  room-within synced t = omega (arith, s .most, ltb-true len limit (both synced (ltb len limit) t .1))
+
+  -- an item more
+  pub appended : (x : A) → len < N → set places len x ≡ padded N z (take len places ++ (x ∷ []))
+  appended x h =
+      ap (λ (l : List A). set l len x) (s .cleared)
+      ∙ ap (λ (k : ℕ). set (padded N z (take len places)) k x) (sym (s .held))
+      ∙ places-append N z (take len places) x (omega (arith, s .held))
+
+  pub one-more : (x : A) → len + 1 ≡ length (take len places ++ (x ∷ []))
+  one-more x = omega (arith, s .held, length-append (take len places) (x ∷ []))
+
+  -- an item in the place of another
+  pub replaced : (k : ℕ) (x : A) → k < len → set places k x ≡ padded N z (set (take len places) k x)
+  replaced k x h = ap (λ (l : List A). set l k x) (s .cleared) ∙ places-set N z (take len places) k x (omega (arith, s .held))
+
+  pub as-many : (k : ℕ) (x : A) → len ≡ length (set (take len places) k x)
+  as-many k x = sym (length-set (take len places) k x ∙ s .held)
+
+  -- other items, as many
+  pub rearranged : (l : List A) → length l ≡ len → l ++ drop len places ≡ padded N z l
+  rearranged l e =
+      ap (λ (r : List A). l ++ drop len r) (s .cleared)
+      ∙ ap (λ (k : ℕ). l ++ drop k (padded N z (take len places))) (sym (s .held))
+      ∙ ap (λ (r : List A). l ++ r) (drop-append-seam (take len places) (replicate (N - length (take len places)) z))
+      ∙ ap (λ (k : ℕ). l ++ replicate (N - k) z) (s .held ∙ sym e)
+
+  -- the front item, and those behind it one place nearer to the front
+  module _ (h : 0 < len) where
+    pub front-first : take len places ≡ getD places 0 z ∷ drop 1 (take len places)
+    front-first = by places len h (omega (arith, s .held, length-take len places))
+      where
+        by : (l : List A) (k : ℕ) → 0 < k → k ≤ length l → take k l ≡ getD l 0 z ∷ drop 1 (take k l)
+        by l zero e f = absurd (not-suc-le-zero e)
+        by [] (suc k) e f = absurd (not-suc-le-zero f)
+        by (x ∷ l) (suc k) e f = refl
+
+    pub one-less : len - 1 ≡ length (drop 1 (take len places))
+    one-less = omega (arith, s .held, length-drop 1 (take len places))
+
+    pub moved-up : set (take (len - 1) (drop 1 places) ++ drop (len - 1) places) (len - 1) z ≡ padded N z (drop 1 (take len places))
+    moved-up =
+        let x : A = getD places 0 z in
+        let rest : List A = drop 1 (take len places) in
+        let p : places ≡ padded N z (x ∷ rest) = s .cleared ∙ ap (padded N z) front-first in
+        ap (λ (l : List A). set (take (len - 1) (drop 1 l) ++ drop (len - 1) l) (len - 1) z) p
+        ∙ ap (λ (k : ℕ). set (take k (drop 1 (padded N z (x ∷ rest))) ++ drop k (padded N z (x ∷ rest))) k z) one-less
+        ∙ places-pop N z x rest (omega (arith, one-less, s .most, s .within))
 
 -- ---- a queue filled by a walk
 

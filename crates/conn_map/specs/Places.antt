@@ -2,7 +2,8 @@
 use Prim.Native.Nat.{ℕ, _-_}
 use mathlib.Core.Bool.{Bool, true, _&&_}
 use mathlib.Core.List.{List, [], _∷_, _++_}
-use lib.ListN.{length, replicate}
+use lib.Dec.{leb, ltb}
+use lib.ListN.{length, drop, replicate}
 
 -- all N places of a list of items
 abbrev pub padded : {A : Type 0} → ℕ → A → List A → List A
@@ -12,3 +13,11 @@ padded N zero l = l ++ replicate (N - length l) zero
 unfoldable pub all : {A : Type 0} → (A → Bool) → List A → Bool
 all test [] = true
 all test (x ∷ l) = test x && all test l
+
+-- a queue is sound: its limit in range, its length within the limit, zero items past the length
+unfoldable pub soundPlaces : {A : Type 0} → (A → Bool) → Bool → List A → ℕ → ℕ → Bool
+soundPlaces isZero limited places len limit = (limited && leb len limit) && all isZero (drop len places)
+
+-- 01, "The two queues": a queue takes one item more where it is synced and not full
+unfoldable pub hasRoom : Bool → ℕ → ℕ → Bool
+hasRoom synced len limit = synced && ltb len limit

@@ -8,8 +8,11 @@ use Rattle.defs.specs.Ladder.{recordAnswer}
 use Rattle.defs.specs.Limits.{isSlotCount}
 use Rattle.defs.specs.Pinned.{Pinned}
 use Rattle.defs.specs.Promises.{Exactly}
+use Rattle.defs.specs.Reading.{Hold}
 use Rattle.conn_map.specs.Key.{keyOf}
+use Rattle.conn_map.specs.Edges.{lastPair}
 use Rattle.conn_map.specs.Table.{usedAt, soundTable}
+use Rattle.conn_map.specs.Places.{hasRoom}
 use Rattle.conn_map.specs.Look.{FlagLeft, FlagSays, LenLeft, LenSays}
 use Rattle.defs.specs.declared.answer.Answer.{Answer}
 use Rattle.conn_map.specs.declared.key.ConnMapKey.{ConnMapKey}
@@ -25,6 +28,10 @@ SoundMeansDistinct =
     (ports used : List ℕ) (marks : ℕ)
     → Exactly (soundTable ports used marks ≡ true) ((isSlotCount (length ports) ≡ true) × (length used ≡ length ports) × (marks ≡ length ports) × NoTwoAlike ports used)
 
+-- the edges of the test, computed
+pub record EdgesHold : Type 0 where
+  pub last-pair : Hold lastPair
+
 -- one number for both ports tells keys apart
 abbrev pub PortsTellKeys : Type 0
 PortsTellKeys = (a b : ℕ) → keyOf a ≡ keyOf b → a ≡ b
@@ -34,10 +41,16 @@ pub record TableIn : Type 0 where
   pub used : List ℕ
   pub marks : ℕ
 
+pub record RoomIn : Type 0 where
+  pub synced : Bool
+  pub len : ℕ
+  pub limit : ℕ
+
 -- every public call: any two outcomes that meet its contract are identical
 pub record EachCallPinned : Type 0 where
   pub key-of : Pinned ℕ ConnMapKey (λ ports r. r ≡ keyOf ports)
   pub is-sound : Pinned TableIn Bool (λ i r. r ≡ soundTable (i .ports) (i .used) (i .marks))
+  pub has-room : Pinned RoomIn Bool (λ i r. r ≡ hasRoom (i .synced) (i .len) (i .limit))
   pub record-answer : Pinned Bool Answer (λ sound r. r ≡ recordAnswer sound)
   pub flag-of : Pinned (Bool × Bool) FlagLeft (λ i left. FlagSays (i .0) (i .1) left)
   pub len-of : Pinned (Bool × ℕ) LenLeft (λ i left. LenSays (i .0) (i .1) left)

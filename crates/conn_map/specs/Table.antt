@@ -21,6 +21,7 @@ pub record Slot : Type 0 where
   pub key : ConnMapKey
   pub mark : ℕ
 
+-- slot i of the lent slices
 abbrev pub slotAt : List ℕ → List ℕ → List ℕ → ℕ → Slot
 slotAt ports used marks i = record { used = usedAt used i; key = keyOf (getD ports i 0); mark = getD marks i 0 }
 

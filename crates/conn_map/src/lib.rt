@@ -3,6 +3,7 @@
 // stands what the two queues share.
 mod key;
 mod look;
+mod room;
 mod table;
 
 pub use key::ConnMapKey;
@@ -12,4 +13,5 @@ pub use look::Len;
 pub use look::flag_of;
 pub use look::len_of;
 pub use look::record_answer;
+pub use room::has_room;
 pub use table::is_sound;

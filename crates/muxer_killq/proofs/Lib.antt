@@ -1,3 +1,4 @@
+pub mod Edges
 pub mod QueueLaws
 pub mod PushLaws
 pub mod PopLaws

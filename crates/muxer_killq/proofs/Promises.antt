@@ -1,16 +1,8 @@
 -- The promises of specs/Promises, each by its law. Assumes nothing.
-use mathlib.Core.Path.{refl}
-use Rattle.defs.specs.Choice.{when}
-use Rattle.defs.specs.Answer.{isDone, whenDone}
-use Rattle.defs.specs.Limits.{isKillqLimit, isClock}
-use Rattle.defs.specs.Ladder.{doorOf, clockAnswer}
 use Rattle.defs.proofs.Pins.{by-equation}
-use Rattle.conn_map.specs.Places.{all}
-use Rattle.muxer_killq.specs.Item.{zeroItem, isZero}
-use Rattle.muxer_killq.specs.Queue.{soundQ}
-use Rattle.muxer_killq.specs.Pop.{popList, popOf}
-use Rattle.muxer_killq.specs.Edges.{readingI}
+use Rattle.muxer_killq.specs.Item.{zeroItem}
 use Rattle.muxer_killq.specs.Promises.{QueueIsItsList, EverySortIsStable, EdgesHold, EachCallPinned}
+use Rattle.muxer_killq.proofs.Edges as edges
 use Rattle.muxer_killq.proofs.QueueLaws as queues
 use Rattle.muxer_killq.proofs.SortLaws as sorts
 
@@ -21,14 +13,14 @@ pub every-sort-is-stable : EverySortIsStable
 every-sort-is-stable = sorts.every-sort-is-stable
 
 pub edges-hold : EdgesHold
-unfolding when isDone whenDone isKillqLimit isClock doorOf all isZero soundQ clockAnswer popList popOf readingI
-edges-hold = record { i = (refl, (refl, tt)) }
+edges-hold = edges.edges-hold
 
 pub each-call-pinned : EachCallPinned
 each-call-pinned = record {
   new = by-equation _ _ _;
   from-conn-map = by-equation _ _ _;
   push = by-equation _ _ _;
+  peek = by-equation _ _ _;
   pop = by-equation _ _ _;
   eq = by-equation _ _ _;
   is-sound = by-equation _ _ _;

@@ -1,17 +1,15 @@
 -- A sound queue is the packing of its items. Assumes nothing.
-use Prim.Native.Nat.{ℕ, zero, suc, _-_, _≤_}
+use Prim.Native.Nat.{ℕ, _≤_}
 use mathlib.Core.Path.{_≡_, refl, sym}
 use mathlib.Core.Bool.{Bool, true}
 use mathlib.Core.List.{List}
-use native.Mathlib.Omega.{arith}
-use borrow.Author.Tests.{eqb-true, leb-true, le-leb}
+use borrow.Author.Tests.{eqb-true, leb-true}
 use lib.Dec.{eqb, leb}
-use lib.ListN.{length, replicate}
-use lib.Seq.{length-take-le, drop-append-seam}
+use lib.ListN.{length}
 use Rattle.defs.specs.Limits.{minKillq, maxKillq, isKillqLimit}
 use Rattle.defs.proofs.Basics.{both}
-use Rattle.conn_map.specs.Places.{padded, all}
-use Rattle.conn_map.proofs.PlacesLaws.{places-are, items-of}
+use Rattle.conn_map.specs.Places.{padded}
+use Rattle.conn_map.proofs.PlacesLaws as places
 use Rattle.muxer_killq.specs.Item.{zeroItem, isZero}
 use Rattle.muxer_killq.specs.Queue.{soundQ, items, pack}
 use Rattle.muxer_killq.specs.Promises.{QueueIsItsList}
@@ -28,49 +26,31 @@ zero-is it e =
     let d : it .«kill_time» ≡ 0 = eqb-true _ _ (u .1) in
     λ i. record { «local_port» = a i; «peer_port» = b i; «kill_time» = d i }
 
--- what soundness says of a queue whose array is as long as its type says
-pub record Sound (q : MuxerKillQ) : Type 0 where
-  pub limited : isKillqLimit (q .limit) ≡ true
-  pub most : q .limit ≤ maxKillq
-  pub within : q .len ≤ q .limit
-  pub held : length (items q) ≡ q .len
-  pub places : q .q ≡ padded maxKillq zeroItem (items q)
-
 pub limit-most : (limit : ℕ) → isKillqLimit limit ≡ true → limit ≤ maxKillq
 unfolding isKillqLimit
 limit-most limit e = leb-true _ _ (both (leb minKillq limit) (leb limit maxKillq) e .1)
 
+-- what soundness says of a queue whose array is as long as its type says
+abbrev pub Sound : MuxerKillQ → Type 0
+Sound q = places.Sound maxKillq zeroItem (q .q) (q .len) (q .limit)
+
 pub sound-says : (q : MuxerKillQ) → length (q .q) ≡ maxKillq → soundQ q ≡ true → Sound q
 unfolding soundQ
-sound-says q n e =
-    let u = both _ _ e in
-    let v = both (isKillqLimit (q .limit)) _ (u .0) in
-    let m = limit-most (q .limit) (v .0) in
-    let w : q .len ≤ q .limit = leb-true _ _ (v .1) in
-    record {
-      limited = v .0;
-      most = m;
-      within = w;
-      held = length-take-le (q .len) (q .q) (omega arith);
-      places = places-are maxKillq zeroItem isZero zero-is (q .q) (q .len) n (omega arith) (u .1);
-    }
+sound-says q n e = places.sound-says maxKillq zeroItem isZero _ _ zero-is (limit-most (q .limit)) (q .q) (q .len) n e
 
 -- places and a length that are those of a list
 pub packs : (a l : List MuxerKillQItem) (n limit : ℕ) (synced : Bool) → n ≡ length l → a ≡ padded maxKillq zeroItem l
     → _≡_ {A = MuxerKillQ} (record { q = a; len = n; limit = limit; synced = synced }) (pack l limit synced)
 packs a l n limit synced e f = rw (e, f)
 
-pub sound-packed : (q : MuxerKillQ) → length (q .q) ≡ maxKillq → soundQ q ≡ true → q ≡ pack (items q) (q .limit) (q .synced)
-sound-packed q n e = let s = sound-says q n e in packs (q .q) (items q) (q .len) (q .limit) (q .synced) (sym (s .held)) (s .places)
-
-all-zero : (n : ℕ) → all isZero (replicate n zeroItem) ≡ true
-unfolding all isZero
-all-zero zero = refl
-all-zero (suc n) = all-zero n
-
-packed-sound : (l : List MuxerKillQItem) (limit : ℕ) (synced : Bool) → isKillqLimit limit ≡ true → length l ≤ limit → soundQ (pack l limit synced) ≡ true
-unfolding soundQ
-packed-sound l limit synced e h = rw (e, le-leb _ _ h, drop-append-seam l (replicate (maxKillq - length l) zeroItem)) (all-zero (maxKillq - length l))
+pub sound-packed : (q : MuxerKillQ) (synced : Bool) → Sound q
+    → _≡_ {A = MuxerKillQ} (record { q = q .q; len = q .len; limit = q .limit; synced = synced }) (pack (items q) (q .limit) synced)
+sound-packed q synced s = packs (q .q) (items q) (q .len) (q .limit) synced (sym (s .held)) (s .cleared)
 
 pub queue-is-its-list : QueueIsItsList
-queue-is-its-list = record { packed-sound = packed-sound; packed-items = λ l limit synced. items-of maxKillq zeroItem l; sound-packed = sound-packed }
+unfolding soundQ isZero
+queue-is-its-list = record {
+  packed-sound = λ l limit synced e h. places.packed-sound maxKillq zeroItem isZero _ limit refl e l h;
+  packed-items = λ l limit synced. places.items-of maxKillq zeroItem l;
+  sound-packed = λ q n e. sound-packed q (q .synced) (sound-says q n e);
+}

@@ -6,11 +6,11 @@ use mathlib.Core.List.{List, []}
 use lib.Dec.{leb, ltb, eqb}
 use lib.ListN.{length, take}
 use Rattle.defs.specs.Ladder.{clockAnswer}
-use Rattle.defs.specs.Answer.{told, whenDone}
 use Rattle.defs.specs.Limits.{isKillqLimit}
 use Rattle.defs.specs.declared.answer.Answer.{Answer}
 use Rattle.conn_map.specs.Table.{Slot, slotsOf, gathered, soundTable}
-use Rattle.muxer_killq.specs.Queue.{pack, QueuedLeft}
+use Rattle.conn_map.specs.Queued.{QueuedLeft, madeOf}
+use Rattle.muxer_killq.specs.Queue.{pack}
 use Rattle.muxer_killq.specs.Push.{itemAt}
 use Rattle.muxer_killq.specs.Sort.{sortByTime}
 use Rattle.muxer_killq.specs.declared.item.MuxerKillQItem.{MuxerKillQItem}
@@ -20,6 +20,7 @@ use Rattle.muxer_killq.specs.declared.queue.MuxerKillQ.{MuxerKillQ}
 abbrev pub isDue : ℕ → Slot → Bool
 isDue clock s = s .used && ltb clock (s .mark)
 
+-- the item of a slot
 abbrev pub itemOf : Slot → MuxerKillQItem
 itemOf s = itemAt (s .key) (s .mark)
 
@@ -43,20 +44,19 @@ unfoldable pub buildAnswer : BuildIn → Answer
 buildAnswer i = clockAnswer (isKillqLimit (i .limit) && soundTable (i .ports) (i .used) (length (i .times))) (i .clock)
 
 -- a refused build is an empty, synced queue of limit 0
-unfoldable pub buildOf : BuildIn → QueuedLeft
-buildOf i = record {
-  answer = told (buildAnswer i);
-  queue = whenDone (buildAnswer i) (builtFrom (i .limit) (i .clock) (slotsOf (i .ports) (i .used) (i .times))) (pack [] 0 true);
-}
+unfoldable pub buildOf : BuildIn → QueuedLeft MuxerKillQ
+buildOf i = madeOf (buildAnswer i) (builtFrom (i .limit) (i .clock) (slotsOf (i .ports) (i .used) (i .times))) (pack [] 0 true)
 
 -- THE STATEMENT of `from_conn_map`
-abbrev pub BuildSays : BuildIn → QueuedLeft → Type 0
+abbrev pub BuildSays : BuildIn → QueuedLeft MuxerKillQ → Type 0
 BuildSays i left = left ≡ buildOf i
 
--- ---- within a build: the same before the sort, and the test on the numbers of a slot
+-- ---- within a build
 
+-- the same before the sort
 unfoldable pub collected : ℕ → ℕ → List Slot → MuxerKillQ
 collected limit clock slots = pack (take limit (dueOf clock slots)) limit (leb (length (dueOf clock slots)) limit)
 
+-- `isDue` on the numbers of a slot
 abbrev pub marked : ℕ → ℕ → ℕ → Bool
 marked used clock time = not (eqb used 0) && ltb clock time

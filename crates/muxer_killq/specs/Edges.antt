@@ -1,15 +1,21 @@
--- The reading of 01 that the kill queue decides: its share of i. Assumes nothing.
+-- The reading of 01 that the kill queue decides, its share of i; and what a build makes of equal times. Assumes nothing.
+use Prim.Native.Nat.{ℕ}
 use mathlib.Core.Bool.{true, false}
 use mathlib.Core.List.{List, [], _∷_}
+use lib.ListN.{take}
 use Rattle.defs.specs.Answer.{told}
 use Rattle.defs.specs.Reading.{Reading, _reads_}
 use Rattle.defs.specs.declared.answer.Answer.the-variants.{Done}
+use Rattle.conn_map.specs.Table.{Slot}
 use Rattle.conn_map.specs.declared.key.ConnMapKey.{ConnMapKey}
 use Rattle.muxer_killq.specs.Queue.{pack}
 use Rattle.muxer_killq.specs.Push.{itemAt}
 use Rattle.muxer_killq.specs.Pop.{noKey, popOf}
+use Rattle.muxer_killq.specs.Sort.{sortByTime}
+use Rattle.muxer_killq.specs.Build.{dueOf}
 use Rattle.muxer_killq.specs.declared.queue.MuxerKillQ.{MuxerKillQ}
 
+-- a queue of limit 1 with one item, at 500
 abbrev key : ConnMapKey
 key = record { «local_port» = 1024; «peer_port» = 5000 }
 
@@ -21,4 +27,22 @@ unfoldable pub readingI : List Reading
 readingI =
     (popOf (record { queue = one; clock = 500 }) reads record { answer = told Done; found = false; key = noKey; queue = one })
     ∷ (popOf (record { queue = one; clock = 501 }) reads record { answer = told Done; found = true; key = key; queue = pack [] 1 true })
+    ∷ []
+
+-- a slot and its item, told by their local port
+abbrev of : ℕ → ConnMapKey
+of n = record { «local_port» = n; «peer_port» = 0 }
+
+abbrev slot : ℕ → ℕ → Slot
+slot n time = record { used = true; key = of n; mark = time }
+
+-- local port and time of five slots
+abbrev slots : List Slot
+slots = slot 1 700 ∷ slot 2 500 ∷ slot 3 700 ∷ slot 4 600 ∷ slot 5 700 ∷ []
+
+-- sorted by time, ties in slot order; of too many the first in slot order, though a later slot's time is earlier
+unfoldable pub ties : List Reading
+ties =
+    (sortByTime (dueOf 500 slots) reads itemAt (of 4) 600 ∷ itemAt (of 1) 700 ∷ itemAt (of 3) 700 ∷ itemAt (of 5) 700 ∷ [])
+    ∷ (sortByTime (take 2 (dueOf 500 slots)) reads itemAt (of 1) 700 ∷ itemAt (of 3) 700 ∷ [])
     ∷ []

@@ -8,6 +8,7 @@ use Rattle.muxer_killq.specs.declared.item.MuxerKillQItem.{MuxerKillQIte
 abbrev pub zeroItem : MuxerKillQItem
 zeroItem = record { «local_port» = 0; «peer_port» = 0; «kill_time» = 0 }
 
+-- an item is the zero item
 unfoldable pub isZero : MuxerKillQItem → Bool
 isZero it = (eqb (it .«local_port») 0 && eqb (it .«peer_port») 0) && eqb (it .«kill_time») 0
 

@@ -1,19 +1,24 @@
--- `pop` (01, "The two queues"). Assumes nothing.
-use Prim.Native.Nat.{ℕ, _-_}
+-- `peek` and `pop` (01, "The two queues"). Assumes nothing.
+use Prim.Native.Nat.{ℕ}
 use mathlib.Core.Path.{_≡_}
 use mathlib.Core.Bool.{Bool, true, false}
-use mathlib.Core.List.{List, [], _∷_, _++_}
+use mathlib.Core.List.{List, [], _∷_}
 use lib.Dec.{ltb}
-use lib.ListN.{take, drop}
 use Rattle.defs.specs.Choice.{when}
 use Rattle.defs.specs.Answer.{Told, told, whenDone}
 use Rattle.defs.specs.Ladder.{clockAnswer}
 use Rattle.defs.specs.declared.answer.Answer.{Answer}
 use Rattle.defs.specs.declared.answer.Answer.the-variants.{Done}
 use Rattle.conn_map.specs.declared.key.ConnMapKey.{ConnMapKey}
+use Rattle.conn_map.specs.Look.{PeekLeft, peekOf}
+use Rattle.muxer_killq.specs.Item.{zeroItem}
 use Rattle.muxer_killq.specs.Queue.{soundQ, items, pack}
 use Rattle.muxer_killq.specs.declared.item.MuxerKillQItem.{MuxerKillQItem}
 use Rattle.muxer_killq.specs.declared.queue.MuxerKillQ.{MuxerKillQ}
+
+-- THE STATEMENT of `peek`: the front, whatever its time
+abbrev pub PeekSays : MuxerKillQ → PeekLeft MuxerKillQItem → Type 0
+PeekSays q left = left ≡ peekOf zeroItem (soundQ q) (items q)
 
 pub record PopIn : Type 0 where
   pub queue : MuxerKillQ
@@ -25,9 +30,11 @@ pub record PopLeft : Type 0 where
   pub key : ConnMapKey
   pub queue : MuxerKillQ
 
+-- no item: ports 0 beside "not found"
 abbrev pub noKey : ConnMapKey
 noKey = record { «local_port» = 0; «peer_port» = 0 }
 
+-- nothing is given, and the queue is as it was
 abbrev none : Answer → MuxerKillQ → PopLeft
 none answer q = record { answer = told answer; found = false; key = noKey; queue = q }
 
@@ -39,6 +46,7 @@ popList clock (x ∷ l) limit synced =
     (record { answer = told Done; found = true; key = record { «local_port» = x .«local_port»; «peer_port» = x .«peer_port» }; queue = pack l limit synced })
     (none Done (pack (x ∷ l) limit synced))
 
+-- 01's table: 1 where the queue is not sound, then 3
 abbrev pub popAnswerOf : PopIn → Answer
 popAnswerOf i = clockAnswer (soundQ (i .queue)) (i .clock)
 
@@ -52,13 +60,3 @@ popOf i =
 -- THE STATEMENT of `pop`
 abbrev pub PopSays : PopIn → PopLeft → Type 0
 PopSays i left = left ≡ popOf i
-
--- ---- within a pop: the items one place nearer to the front, the last place as it was
-
-abbrev pub movedUp : MuxerKillQ → MuxerKillQ
-movedUp q = record {
-  q = take (q .len - 1) (drop 1 (q .q)) ++ drop (q .len - 1) (q .q);
-  len = q .len;
-  limit = q .limit;
-  synced = q .synced;
-}

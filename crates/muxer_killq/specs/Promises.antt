@@ -11,14 +11,15 @@ use Rattle.defs.specs.Pinned.{Pinned}
 use Rattle.defs.specs.Reading.{Hold}
 use Rattle.defs.specs.declared.answer.Answer.{Answer}
 use Rattle.conn_map.specs.Table.{chosen}
-use Rattle.conn_map.specs.Look.{FlagLeft, FlagSays}
+use Rattle.conn_map.specs.Look.{FlagLeft, FlagSays, PeekLeft}
+use Rattle.conn_map.specs.Queued.{QueuedLeft}
 use Rattle.muxer_killq.specs.Item.{zeroItem, isZero, isAlike}
-use Rattle.muxer_killq.specs.Queue.{soundQ, items, pack, QueuedLeft, NewSays}
+use Rattle.muxer_killq.specs.Queue.{soundQ, items, pack, NewSays}
 use Rattle.muxer_killq.specs.Push.{PushIn, PushSays}
-use Rattle.muxer_killq.specs.Pop.{PopIn, PopLeft, PopSays}
+use Rattle.muxer_killq.specs.Pop.{PeekSays, PopIn, PopLeft, PopSays}
 use Rattle.muxer_killq.specs.Sort.{sortByTime}
 use Rattle.muxer_killq.specs.Build.{BuildIn, BuildSays}
-use Rattle.muxer_killq.specs.Edges.{readingI}
+use Rattle.muxer_killq.specs.Edges.{readingI, ties}
 use Rattle.muxer_killq.specs.declared.item.MuxerKillQItem.{MuxerKillQItem}
 use Rattle.muxer_killq.specs.declared.queue.MuxerKillQ.{MuxerKillQ}
 
@@ -28,11 +29,12 @@ pub record QueueIsItsList : Type 0 where
   pub packed-items : (l : List MuxerKillQItem) (limit : ℕ) (synced : Bool) → items (pack l limit synced) ≡ l
   pub sound-packed : (q : MuxerKillQ) → length (q .q) ≡ maxKillq → soundQ q ≡ true → q ≡ pack (items q) (q .limit) (q .synced)
 
--- no item is earlier than the one before it
+-- the first item of a list is not earlier than a time
 abbrev pub NotBefore : ℕ → List MuxerKillQItem → Type 0
 NotBefore time [] = Unit
 NotBefore time (y ∷ l) = time ≤ y .«kill_time»
 
+-- sorted by time
 abbrev pub Sorted : List MuxerKillQItem → Type 0
 Sorted [] = Unit
 Sorted (x ∷ l) = NotBefore (x .«kill_time») l × Sorted l
@@ -43,18 +45,21 @@ pub record SortIsStable (l : List MuxerKillQItem) : Type 0 where
   pub permutes : (test : MuxerKillQItem → Bool) → length (chosen test (sortByTime l)) ≡ length (chosen test l)
   pub stable : (time : ℕ) → chosen (λ (x : MuxerKillQItem). eqb (x .«kill_time») time) (sortByTime l) ≡ chosen (λ (x : MuxerKillQItem). eqb (x .«kill_time») time) l
 
+-- whatever came in
 abbrev pub EverySortIsStable : Type 0
 EverySortIsStable = (l : List MuxerKillQItem) → SortIsStable l
 
--- 01's readings at the edges of this crate
+-- 01's reading at the edge of this crate, and its rule on equal times
 pub record EdgesHold : Type 0 where
   pub i : Hold readingI
+  pub ties : Hold ties
 
 -- every public call: any two outcomes that meet its contract are identical
 pub record EachCallPinned : Type 0 where
-  pub new : Pinned ℕ QueuedLeft NewSays
-  pub from-conn-map : Pinned BuildIn QueuedLeft BuildSays
-  pub push : Pinned PushIn QueuedLeft PushSays
+  pub new : Pinned ℕ (QueuedLeft MuxerKillQ) NewSays
+  pub from-conn-map : Pinned BuildIn (QueuedLeft MuxerKillQ) BuildSays
+  pub push : Pinned PushIn (QueuedLeft MuxerKillQ) PushSays
+  pub peek : Pinned MuxerKillQ (PeekLeft MuxerKillQItem) PeekSays
   pub pop : Pinned PopIn PopLeft PopSays
   pub eq : Pinned (MuxerKillQItem × MuxerKillQItem) Bool (λ i r. r ≡ isAlike (i .0) (i .1))
   pub is-sound : Pinned MuxerKillQ Bool (λ q r. r ≡ soundQ q)

@@ -1,16 +1,17 @@
 -- `push` (01, "The two queues"). Assumes nothing.
 use Prim.Native.Nat.{ℕ}
 use mathlib.Core.Path.{_≡_}
-use mathlib.Core.Bool.{Bool, false, _&&_}
+use mathlib.Core.Bool.{Bool, false}
 use mathlib.Core.List.{List, [], _∷_, _++_}
-use lib.Dec.{ltb}
 use lib.ListN.{length}
 use Rattle.defs.specs.Ladder.{recordAnswer}
 use Rattle.defs.specs.Choice.{when}
-use Rattle.defs.specs.Answer.{told, whenDone}
+use Rattle.defs.specs.Answer.{told}
 use Rattle.defs.specs.declared.answer.Answer.the-variants.{Done, NotQueued}
 use Rattle.conn_map.specs.declared.key.ConnMapKey.{ConnMapKey}
-use Rattle.muxer_killq.specs.Queue.{soundQ, items, pack, QueuedLeft}
+use Rattle.conn_map.specs.Places.{hasRoom}
+use Rattle.conn_map.specs.Queued.{QueuedLeft, calledOf}
+use Rattle.muxer_killq.specs.Queue.{soundQ, items, pack}
 use Rattle.muxer_killq.specs.declared.item.MuxerKillQItem.{MuxerKillQItem}
 use Rattle.muxer_killq.specs.declared.queue.MuxerKillQ.{MuxerKillQ}
 
@@ -24,19 +25,19 @@ abbrev pub itemAt : ConnMapKey → ℕ → MuxerKillQItem
 itemAt key time = record { «local_port» = key .«local_port»; «peer_port» = key .«peer_port»; «kill_time» = time }
 
 -- synced and not full: append, unsorted. Otherwise turned down, and unsyncs
-unfoldable pub pushList : List MuxerKillQItem → ℕ → Bool → MuxerKillQItem → QueuedLeft
+unfoldable pub pushList : List MuxerKillQItem → ℕ → Bool → MuxerKillQItem → QueuedLeft MuxerKillQ
 pushList l limit synced it =
-    when (synced && ltb (length l) limit)
+    when (hasRoom synced (length l) limit)
     (record { answer = told Done; queue = pack (l ++ (it ∷ [])) limit synced })
     (record { answer = told NotQueued; queue = pack l limit false })
 
--- a refusal changes nothing
-unfoldable pub pushOf : PushIn → QueuedLeft
+-- of a sound queue; a refusal changes nothing
+unfoldable pub pushOf : PushIn → QueuedLeft MuxerKillQ
 pushOf i =
-    whenDone (recordAnswer (soundQ (i .queue)))
+    calledOf (recordAnswer (soundQ (i .queue)))
     (pushList (items (i .queue)) (i .queue .limit) (i .queue .synced) (itemAt (i .key) (i .«kill_time»)))
-    (record { answer = told (recordAnswer (soundQ (i .queue))); queue = i .queue })
+    (i .queue)
 
 -- THE STATEMENT of `push`
-abbrev pub PushSays : PushIn → QueuedLeft → Type 0
+abbrev pub PushSays : PushIn → QueuedLeft MuxerKillQ → Type 0
 PushSays i left = left ≡ pushOf i

@@ -8,6 +8,7 @@ mod push;
 mod queue;
 
 pub use item::MuxerKillQItem;
+pub use pop::Peeked;
 pub use pop::Popped;
 pub use queue::MuxerKillQ;
 pub use queue::Queued;

@@ -1,15 +1,27 @@
-// Popping: the front item, once its time has passed.
+// Looking at the front, and taking from it once its time has passed.
 ghost use mathlib.Core.Path.{_≡_};
-ghost use Prim.Native.Nat.{_<_, _≤_};
+ghost use Prim.Native.Nat.{_<_};
+ghost use mathlib.Core.Bool.{true};
+ghost use lib.ListN.{drop};
 ghost use Rattle.defs.specs.Ladder.{clockAnswer};
 ghost use Rattle.defs.specs.Answer.{told};
-ghost use Rattle.defs.specs.Limits.{maxKillq};
-ghost use Rattle.muxer_killq.specs.Pop.{movedUp, noKey, PopIn, PopLeft, PopSays};
+ghost use Rattle.conn_map.specs.Look.{PeekLeft};
+ghost use Rattle.muxer_killq.specs.Item.{zeroItem};
+ghost use Rattle.muxer_killq.specs.Queue.{items, pack, soundQ};
+ghost use Rattle.muxer_killq.specs.Pop.{noKey, PeekSays, PopIn, PopLeft, PopSays};
+use crate::item::MuxerKillQItem;
 use crate::item::zero_item;
 use crate::queue::MuxerKillQ;
 use conn_map::ConnMapKey;
 use defs::Answer;
 use defs::limits;
+
+// `item` is the zero item where none was found.
+pub struct Peeked {
+    pub answer: Answer,
+    pub found: bool,
+    pub item: MuxerKillQItem,
+}
 
 // `key` is all zero where none was found.
 pub struct Popped {
@@ -20,6 +32,34 @@ pub struct Popped {
 }
 
 impl MuxerKillQ {
+    // The front whatever its time, so that a caller sees when the next pop is due: it takes no clock.
+    pub fn peek(self) -> Peeked
+        ensures { λ r. ⌜ PeekSays self (record { answer = told (r .answer); found = r .found; item = r .item }) ⌝ }
+    {
+        let none = zero_item();
+        let answer = conn_map::record_answer(self.is_sound());
+        let Answer::Done = answer else {
+            return Peeked {
+                answer,
+                found: false,
+                item: none,
+            };
+        };
+        if self.len == 0 {
+            return Peeked {
+                answer,
+                found: false,
+                item: none,
+            };
+        }
+        let item = self.q[0];
+        Peeked {
+            answer,
+            found: true,
+            item,
+        }
+    }
+
     // Only the front is looked at: an item behind it whose time has passed waits.
     pub fn pop(self, clock: u64) -> Popped
         ensures { λ r. ⌜ PopSays (record { queue = self; clock = clock }) (record { answer = told (r .answer); found = r .found; key = r .key; queue = r .queue }) ⌝ }
@@ -37,11 +77,7 @@ impl MuxerKillQ {
         let front = self.q[0];
         let expired = (0 < self.len) & (front.kill_time < clock);
         if expired {
-            let last = self.len - 1;
             let zero = zero_item();
-            let mut queue = move_up(self);
-            queue.q[last] = zero;
-            queue.len = last;
             return Popped {
                 answer,
                 found: true,
@@ -49,7 +85,7 @@ impl MuxerKillQ {
                     local_port: front.local_port,
                     peer_port: front.peer_port,
                 },
-                queue,
+                queue: drop_front(self, zero),
             };
         }
         Popped {
@@ -76,10 +112,10 @@ fn no_key() -> ConnMapKey
     }
 }
 
-// The items from place 1 on moved one place to the front; the last place stays.
-fn move_up(queue: MuxerKillQ) -> MuxerKillQ
-    requires { ⌜ (0 < queue .len) × (queue .len ≤ maxKillq) ⌝ }
-    ensures { λ r. ⌜ r ≡ movedUp queue ⌝ }
+// The queue without its front item: the others move up, and the place that becomes free gets `zero`.
+fn drop_front(queue: MuxerKillQ, zero: MuxerKillQItem) -> MuxerKillQ
+    requires { ⌜ (soundQ queue ≡ true) × (0 < queue .len) × (zero ≡ zeroItem) ⌝ }
+    ensures { λ r. ⌜ r ≡ pack (drop 1 (items queue)) (queue .limit) (queue .synced) ⌝ }
 {
     let mut next = queue;
     let last = queue.len - 1;
@@ -89,5 +125,7 @@ fn move_up(queue: MuxerKillQ) -> MuxerKillQ
         next.q[i] = it;
         i += 1;
     }
+    next.q[last] = zero;
+    next.len = last;
     next
 }

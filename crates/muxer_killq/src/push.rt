@@ -1,7 +1,7 @@
 // Pushing, behind all others whatever the time: a push that is turned down loses sync.
 ghost use mathlib.Core.Path.{_≡_};
 ghost use Rattle.defs.specs.Answer.{told};
-ghost use Rattle.muxer_killq.specs.Queue.{QueuedLeft};
+ghost use Rattle.conn_map.specs.Queued.{QueuedLeft};
 ghost use Rattle.muxer_killq.specs.Push.{PushIn, PushSays};
 use crate::item::MuxerKillQItem;
 use crate::queue::MuxerKillQ;
@@ -20,7 +20,7 @@ impl MuxerKillQ {
                 queue: self,
             };
         };
-        let room = self.synced & (self.len < self.limit);
+        let room = conn_map::has_room(self.synced, self.len, self.limit);
         let mut queue = self;
         if room {
             let at = self.len;

@@ -6,12 +6,12 @@ use mathlib.Core.List.{List, []}
 use lib.Dec.{leb, eqb}
 use lib.ListN.{length, take}
 use Rattle.defs.specs.Ladder.{recordAnswer}
-use Rattle.defs.specs.Answer.{told, whenDone}
 use Rattle.defs.specs.Limits.{isRxqLimit}
 use Rattle.defs.specs.declared.answer.Answer.{Answer}
 use Rattle.conn_map.specs.Table.{Slot, slotsOf, gathered, soundTable}
 use Rattle.conn_map.specs.declared.key.ConnMapKey.{ConnMapKey}
-use Rattle.muxer_rxq.specs.Queue.{pack, QueuedLeft}
+use Rattle.conn_map.specs.Queued.{QueuedLeft, madeOf}
+use Rattle.muxer_rxq.specs.Queue.{pack}
 use Rattle.muxer_rxq.specs.declared.queue.MuxerRx.{MuxerRx}
 use Rattle.muxer_rxq.specs.declared.queue.MuxerRxQ.{MuxerRxQ}
 
@@ -23,9 +23,13 @@ isPending s = s .used && not (eqb (s .mark) 0)
 abbrev pub connTo : ConnMapKey → MuxerRx
 connTo key = record { rst = false; «local_port» = key .«local_port»; «peer_port» = key .«peer_port» }
 
+-- the item of a slot
+abbrev pub itemOf : Slot → MuxerRx
+itemOf s = connTo (s .key)
+
 -- the connections of the pending slots, in slot order
 abbrev pub pendingOf : List Slot → List MuxerRx
-pendingOf slots = gathered isPending (λ (s : Slot). connTo (s .key)) slots
+pendingOf slots = gathered isPending itemOf slots
 
 -- the first of them, as far as the limit goes; unsynced exactly if there are more
 unfoldable pub builtFrom : ℕ → List Slot → MuxerRxQ
@@ -42,17 +46,15 @@ unfoldable pub buildAnswer : BuildIn → Answer
 buildAnswer i = recordAnswer (isRxqLimit (i .limit) && soundTable (i .ports) (i .used) (length (i .pending)))
 
 -- a refused build is an empty, synced queue of limit 0
-unfoldable pub buildOf : BuildIn → QueuedLeft
-buildOf i = record {
-  answer = told (buildAnswer i);
-  queue = whenDone (buildAnswer i) (builtFrom (i .limit) (slotsOf (i .ports) (i .used) (i .pending))) (pack [] 0 true);
-}
+unfoldable pub buildOf : BuildIn → QueuedLeft MuxerRxQ
+buildOf i = madeOf (buildAnswer i) (builtFrom (i .limit) (slotsOf (i .ports) (i .used) (i .pending))) (pack [] 0 true)
 
 -- THE STATEMENT of `from_conn_map`
-abbrev pub BuildSays : BuildIn → QueuedLeft → Type 0
+abbrev pub BuildSays : BuildIn → QueuedLeft MuxerRxQ → Type 0
 BuildSays i left = left ≡ buildOf i
 
--- ---- within the walk: the test on the numbers of a slot
+-- ---- within the walk
 
+-- `isPending` on the numbers of a slot
 abbrev pub marked : ℕ → ℕ → Bool
 marked used pending = not (eqb used 0) && not (eqb pending 0)

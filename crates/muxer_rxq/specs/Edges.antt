@@ -5,7 +5,8 @@ use mathlib.Core.List.{List, [], _∷_}
 use Rattle.defs.specs.Answer.{told}
 use Rattle.defs.specs.Reading.{Reading, _reads_}
 use Rattle.defs.specs.declared.answer.Answer.the-variants.{Done, NotQueued}
-use Rattle.muxer_rxq.specs.Queue.{pack, QueuedLeft}
+use Rattle.conn_map.specs.Queued.{QueuedLeft}
+use Rattle.muxer_rxq.specs.Queue.{pack}
 use Rattle.muxer_rxq.specs.Push.{pushOf}
 use Rattle.muxer_rxq.specs.Pop.{PopLeft, popOf}
 use Rattle.muxer_rxq.specs.declared.queue.MuxerRx.{MuxerRx}
@@ -21,10 +22,10 @@ rst n = record { rst = true; «local_port» = n; «peer_port» = 0 }
 abbrev two : MuxerRx → MuxerRx → Bool → MuxerRxQ
 two a b synced = pack (a ∷ b ∷ []) 2 synced
 
-abbrev afterR : QueuedLeft
+abbrev afterR : QueuedLeft MuxerRxQ
 afterR = pushOf (record { queue = two (conn 1) (conn 2) true; rx = rst 8 })
 
-abbrev afterS : QueuedLeft
+abbrev afterS : QueuedLeft MuxerRxQ
 afterS = pushOf (record { queue = afterR .queue; rx = rst 9 })
 
 abbrev popped : PopLeft

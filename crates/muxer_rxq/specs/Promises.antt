@@ -8,10 +8,11 @@ use lib.ListN.{length}
 use Rattle.defs.specs.Limits.{maxRxq, isRxqLimit}
 use Rattle.defs.specs.Pinned.{Pinned}
 use Rattle.defs.specs.Reading.{Hold}
-use Rattle.conn_map.specs.Look.{FlagLeft, FlagSays, LenLeft, LenSays}
-use Rattle.muxer_rxq.specs.Queue.{soundQ, items, pack, QueuedLeft, NewSays, zeroItem}
+use Rattle.conn_map.specs.Look.{FlagLeft, FlagSays, LenLeft, LenSays, PeekLeft}
+use Rattle.conn_map.specs.Queued.{QueuedLeft}
+use Rattle.muxer_rxq.specs.Queue.{soundQ, items, pack, NewSays, zeroItem}
 use Rattle.muxer_rxq.specs.Push.{PushIn, PushSays}
-use Rattle.muxer_rxq.specs.Pop.{PeekLeft, PeekSays, PopLeft, PopSays}
+use Rattle.muxer_rxq.specs.Pop.{PeekSays, PopLeft, PopSays}
 use Rattle.muxer_rxq.specs.Build.{BuildIn, BuildSays}
 use Rattle.muxer_rxq.specs.Edges.{readingJ}
 use Rattle.muxer_rxq.specs.declared.queue.MuxerRx.{MuxerRx}
@@ -29,10 +30,10 @@ pub record EdgesHold : Type 0 where
 
 -- every public call: any two outcomes that meet its contract are identical
 pub record EachCallPinned : Type 0 where
-  pub new : Pinned ℕ QueuedLeft NewSays
-  pub from-conn-map : Pinned BuildIn QueuedLeft BuildSays
-  pub push : Pinned PushIn QueuedLeft PushSays
-  pub peek : Pinned MuxerRxQ PeekLeft PeekSays
+  pub new : Pinned ℕ (QueuedLeft MuxerRxQ) NewSays
+  pub from-conn-map : Pinned BuildIn (QueuedLeft MuxerRxQ) BuildSays
+  pub push : Pinned PushIn (QueuedLeft MuxerRxQ) PushSays
+  pub peek : Pinned MuxerRxQ (PeekLeft MuxerRx) PeekSays
   pub pop : Pinned MuxerRxQ PopLeft PopSays
   pub is-sound : Pinned MuxerRxQ Bool (λ q r. r ≡ soundQ q)
   pub is-synced : Pinned MuxerRxQ FlagLeft (λ q left. FlagSays (soundQ q) (q .synced) left)

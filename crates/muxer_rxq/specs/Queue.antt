@@ -3,12 +3,12 @@ use Prim.Native.Nat.{ℕ}
 use mathlib.Core.Path.{_≡_}
 use mathlib.Core.Bool.{Bool, true, false, not, _&&_}
 use mathlib.Core.List.{List, []}
-use lib.Dec.{leb, eqb}
-use lib.ListN.{length, take, drop}
+use lib.Dec.{eqb}
+use lib.ListN.{length, take}
 use Rattle.defs.specs.Ladder.{recordAnswer}
-use Rattle.defs.specs.Answer.{Told, told, whenDone}
 use Rattle.defs.specs.Limits.{maxRxq, isRxqLimit}
-use Rattle.conn_map.specs.Places.{padded, all}
+use Rattle.conn_map.specs.Places.{padded, soundPlaces}
+use Rattle.conn_map.specs.Queued.{QueuedLeft, madeOf}
 use Rattle.muxer_rxq.specs.declared.queue.MuxerRx.{MuxerRx}
 use Rattle.muxer_rxq.specs.declared.queue.MuxerRxQ.{MuxerRxQ}
 
@@ -16,12 +16,13 @@ use Rattle.muxer_rxq.specs.declared.queue.MuxerRxQ.{MuxerRxQ}
 abbrev pub zeroItem : MuxerRx
 zeroItem = record { rst = false; «local_port» = 0; «peer_port» = 0 }
 
+-- an item is the zero item
 unfoldable pub isZero : MuxerRx → Bool
 isZero it = (not (it .rst) && eqb (it .«local_port») 0) && eqb (it .«peer_port») 0
 
 -- the limit in range, the length within it, zero items past the length
 unfoldable pub soundQ : MuxerRxQ → Bool
-soundQ q = (isRxqLimit (q .limit) && leb (q .len) (q .limit)) && all isZero (drop (q .len) (q .q))
+soundQ q = soundPlaces isZero (isRxqLimit (q .limit)) (q .q) (q .len) (q .limit)
 
 -- THE ABSTRACTION: the items of a queue, front first
 abbrev pub items : MuxerRxQ → List MuxerRx
@@ -33,16 +34,10 @@ pack l limit synced = record { q = padded maxRxq zeroItem l; len = length l; lim
 
 -- ---- the constructor
 
-pub record QueuedLeft : Type 0 where
-  pub answer : Told
-  pub queue : MuxerRxQ
-
 -- an empty, synced queue, of limit 0 where it is refused
-unfoldable pub newOf : ℕ → QueuedLeft
-newOf limit = record {
-  answer = told (recordAnswer (isRxqLimit limit));
-  queue = whenDone (recordAnswer (isRxqLimit limit)) (pack [] limit true) (pack [] 0 true);
-}
+unfoldable pub newOf : ℕ → QueuedLeft MuxerRxQ
+newOf limit = madeOf (recordAnswer (isRxqLimit limit)) (pack [] limit true) (pack [] 0 true)
 
-abbrev pub NewSays : ℕ → QueuedLeft → Type 0
+-- THE STATEMENT of `new`
+abbrev pub NewSays : ℕ → QueuedLeft MuxerRxQ → Type 0
 NewSays limit left = left ≡ newOf limit

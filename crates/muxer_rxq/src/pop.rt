@@ -1,9 +1,12 @@
 // Taking from the front, and looking there.
 ghost use mathlib.Core.Path.{_≡_};
-ghost use Prim.Native.Nat.{_<_, _≤_};
+ghost use Prim.Native.Nat.{_<_};
+ghost use mathlib.Core.Bool.{true};
+ghost use lib.ListN.{drop};
 ghost use Rattle.defs.specs.Answer.{told};
-ghost use Rattle.defs.specs.Limits.{maxRxq};
-ghost use Rattle.muxer_rxq.specs.Pop.{movedUp, PeekLeft, PeekSays, PopLeft, PopSays};
+ghost use Rattle.conn_map.specs.Look.{PeekLeft};
+ghost use Rattle.muxer_rxq.specs.Queue.{items, pack, soundQ, zeroItem};
+ghost use Rattle.muxer_rxq.specs.Pop.{PeekSays, PopLeft, PopSays};
 use crate::queue::MuxerRx;
 use crate::queue::MuxerRxQ;
 use crate::queue::zero_item;
@@ -74,23 +77,19 @@ impl MuxerRxQ {
             };
         }
         let item = self.q[0];
-        let last = self.len - 1;
-        let mut queue = move_up(self);
-        queue.q[last] = none;
-        queue.len = last;
         Popped {
             answer,
             found: true,
             item,
-            queue,
+            queue: drop_front(self, none),
         }
     }
 }
 
-// The items from place 1 on moved one place to the front; the last place stays.
-fn move_up(queue: MuxerRxQ) -> MuxerRxQ
-    requires { ⌜ (0 < queue .len) × (queue .len ≤ maxRxq) ⌝ }
-    ensures { λ r. ⌜ r ≡ movedUp queue ⌝ }
+// The queue without its front item: the others move up, and the place that becomes free gets `zero`.
+fn drop_front(queue: MuxerRxQ, zero: MuxerRx) -> MuxerRxQ
+    requires { ⌜ (soundQ queue ≡ true) × (0 < queue .len) × (zero ≡ zeroItem) ⌝ }
+    ensures { λ r. ⌜ r ≡ pack (drop 1 (items queue)) (queue .limit) (queue .synced) ⌝ }
 {
     let mut next = queue;
     let last = queue.len - 1;
@@ -100,5 +99,7 @@ fn move_up(queue: MuxerRxQ) -> MuxerRxQ
         next.q[i] = it;
         i += 1;
     }
+    next.q[last] = zero;
+    next.len = last;
     next
 }

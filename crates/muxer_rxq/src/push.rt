@@ -2,11 +2,12 @@
 // nothing more, an RST takes the place of a connection, and sync is lost.
 ghost use mathlib.Core.Path.{_≡_};
 ghost use Prim.Native.Nat.{_≤_};
-ghost use lib.ListN.{take};
+ghost use mathlib.Core.Bool.{true};
 ghost use Rattle.defs.specs.Answer.{told};
 ghost use Rattle.defs.specs.Limits.{maxRxq};
-ghost use Rattle.muxer_rxq.specs.Queue.{QueuedLeft};
-ghost use Rattle.muxer_rxq.specs.Push.{lastConn, evicted, PushIn, PushSays};
+ghost use Rattle.conn_map.specs.Queued.{QueuedLeft};
+ghost use Rattle.muxer_rxq.specs.Queue.{items, soundQ};
+ghost use Rattle.muxer_rxq.specs.Push.{lastConn, evictList, PushIn, PushSays};
 use crate::queue::MuxerRx;
 use crate::queue::MuxerRxQ;
 use crate::queue::Queued;
@@ -23,7 +24,7 @@ impl MuxerRxQ {
                 queue: self,
             };
         };
-        let room = self.synced & (self.len < self.limit);
+        let room = conn_map::has_room(self.synced, self.len, self.limit);
         if room {
             let at = self.len;
             let mut queue = self;
@@ -45,8 +46,8 @@ impl MuxerRxQ {
 
 // An RST takes the place of the rearmost connection; where there is none it is turned down.
 fn evict(queue: MuxerRxQ, rst: MuxerRx) -> Queued
-    requires { ⌜ queue .len ≤ maxRxq ⌝ }
-    ensures { λ r. ⌜ r ≡ evicted queue rst ⌝ }
+    requires { ⌜ soundQ queue ≡ true ⌝ }
+    ensures { λ r. ⌜ _≡_ {A = QueuedLeft MuxerRxQ} (record { answer = told (r .answer); queue = r .queue }) (evictList (items queue) (queue .limit) (queue .synced) rst) ⌝ }
 {
     let found = rearmost(queue);
     if found == 0 {
@@ -68,7 +69,7 @@ fn evict(queue: MuxerRxQ, rst: MuxerRx) -> Queued
 // One more than the place of the rearmost connection, or 0.
 fn rearmost(queue: MuxerRxQ) -> usize
     requires { ⌜ queue .len ≤ maxRxq ⌝ }
-    ensures { λ r. ⌜ r ≡ lastConn (take (queue .len) (queue .q)) ⌝ }
+    ensures { λ r. ⌜ r ≡ lastConn (items queue) ⌝ }
 {
     let mut i = queue.len;
     while 0 < i {

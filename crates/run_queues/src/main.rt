@@ -1,6 +1,7 @@
 // Runs both queues over their edges (limits, eviction, pushes to an unsynced queue, pops, stray
 // items, tables, equal times, 01's readings i and j) and prints a line for each call: its input,
-// 01's number of the answer, the record that is left, and its first three places.
+// 01's number of the answer, the record that is left, and its first three places. The last place
+// of the array has a line of its own where a call reaches it.
 use conn_map::ConnMapKey;
 use defs::Answer;
 use muxer_killq::MuxerKillQ;
@@ -140,7 +141,14 @@ fn rx_look(queue: MuxerRxQ) {
     say(b"\n");
 }
 
-fn rx_build(limit: usize, ports: &[u64], used: &[u8], pending: &[u8]) {
+fn rx_last(queue: MuxerRxQ) {
+    say(b"rx place 255 ");
+    let it = queue.q[255];
+    rx_item(it);
+    say(b"\n");
+}
+
+fn rx_build(limit: usize, ports: &[u64], used: &[u8], pending: &[u8]) -> MuxerRxQ {
     say(b"rx build ");
     number(limit as u64);
     say(b"slots ");
@@ -149,6 +157,7 @@ fn rx_build(limit: usize, ports: &[u64], used: &[u8], pending: &[u8]) {
     let answer = built.answer;
     let queue = built.queue;
     rx_left(answer, queue);
+    queue
 }
 
 // ---- runs of the RX queue
@@ -188,8 +197,12 @@ fn rx_full() {
     rx_look(c);
     let d = rx_push(rx_filled(255, true), false, 1);
     rx_look(d);
+    rx_last(d);
     let e = rx_push(d, true, 8);
+    rx_last(e);
     rx_push(e, true, 9);
+    rx_last(rx_pop(e));
+    rx_push(rx_filled(256, true), true, 9);
     rx_push(rx_filled(256, false), false, 1);
 }
 
@@ -244,13 +257,14 @@ fn rx_tables() {
     rx_build(2, &ports, &used, &some);
     rx_build(3, &ports, &every, &all);
     rx_build(3, &ports[..2], &every[..2], &all[..2]);
+    rx_build(3, &ports[..1], &every[..1], &all[..1]);
     rx_build(3, &ports[..0], &every[..0], &all[..0]);
     rx_build(3, &ports, &used, &all[..3]);
     rx_build(3, &ports, &used[..3], &all);
     rx_wide();
 }
 
-// 512 slots and one more.
+// 512 slots and one more, of which few are used.
 fn rx_wide() {
     let ports = [0u64; 513];
     let mut used = [0u8; 513];
@@ -260,6 +274,27 @@ fn rx_wide() {
     rx_build(256, &ports, &used, &pending);
     used[0] = 1;
     rx_build(256, &ports[..512], &used[..512], &pending[..512]);
+    rx_many();
+}
+
+// 512 slots that are all used and pending; then 256 of them.
+fn rx_many() {
+    let ports = many_ports();
+    let used = [1u8; 512];
+    let pending = [1u8; 512];
+    rx_last(rx_build(256, &ports, &used, &pending));
+    rx_last(rx_build(256, &ports[256..], &used[256..], &pending[256..]));
+}
+
+// 512 slots: slot i has local port i.
+fn many_ports() -> [u64; 512] {
+    let mut ports = [0u64; 512];
+    let mut i = 0;
+    while i < 512 {
+        ports[i] = (i as u64) * 4294967296;
+        i += 1;
+    }
+    ports
 }
 
 // ---- calls on the kill queue, each with its line
@@ -328,18 +363,30 @@ fn kill_look(queue: MuxerKillQ) {
     let synced = queue.is_synced();
     let empty = queue.is_empty();
     let full = queue.is_full();
-    let answer = synced.answer;
+    let front = queue.peek();
+    let answer = front.answer;
+    let item = front.item;
     say(b"kill look synced ");
     yes(synced.holds);
     say(b"empty ");
     yes(empty.holds);
     say(b"full ");
     yes(full.holds);
+    say(b"front ");
+    yes(front.found);
+    kill_item(item);
     answered(answer);
     say(b"\n");
 }
 
-fn kill_build(limit: usize, clock: u64, ports: &[u64], used: &[u8], times: &[u64]) {
+fn kill_last(queue: MuxerKillQ) {
+    say(b"kill place 127 ");
+    let it = queue.q[127];
+    kill_item(it);
+    say(b"\n");
+}
+
+fn kill_build(limit: usize, clock: u64, ports: &[u64], used: &[u8], times: &[u64]) -> MuxerKillQ {
     say(b"kill build ");
     number(limit as u64);
     say(b"at ");
@@ -350,6 +397,7 @@ fn kill_build(limit: usize, clock: u64, ports: &[u64], used: &[u8], times: &[u64
     let answer = built.answer;
     let queue = built.queue;
     kill_left(answer, queue);
+    queue
 }
 
 // ---- runs of the kill queue
@@ -381,8 +429,21 @@ fn kill_full() {
     kill_pop(f, 4611686018427387905);
     let g = kill_pop(f, 4611686018427387904);
     kill_look(g);
-    kill_push(kill_filled(127), 8, 18446744073709551615);
+    kill_pop(kill_push(g, 3, 800), 801);
+    let h = kill_push(kill_filled(127), 8, 18446744073709551615);
+    kill_last(h);
+    kill_last(kill_pop(h, 501));
     kill_push(kill_filled(128), 8, 18446744073709551615);
+    kill_full_of_one();
+}
+
+// Of limit 1: the time that a peek shows is not looked at, and a push that is turned down unsyncs.
+fn kill_full_of_one() {
+    let a = kill_push(kill_new(1), 1, 18446744073709551615);
+    kill_look(a);
+    kill_pop(a, 4611686018427387904);
+    let b = kill_push(a, 2, 0);
+    kill_look(b);
 }
 
 // A queue of limit 128 with so many items pushed.
@@ -441,6 +502,17 @@ fn kill_tables() {
     kill_build(3, 4611686018427387904, &ports, &used, &times);
     kill_build(3, 4611686018427387905, &ports, &used, &times);
     kill_build(0, 4611686018427387905, &ports, &used, &times);
+    kill_wide();
+}
+
+// 512 slots, all of one time; then 128 of them.
+fn kill_wide() {
+    let ports = many_ports();
+    let used = [1u8; 512];
+    let times = [700u64; 512];
+    kill_last(kill_build(128, 699, &ports, &used, &times));
+    kill_last(kill_build(128, 699, &ports[384..], &used[384..], &times[384..]));
+    kill_build(128, 700, &ports, &used, &times);
 }
 
 fn equality() {

@@ -1,8 +1,11 @@
-use Prim.Native.Nat.{_-_, _≤_}
+use Prim.Native.Nat.{_-_, _≤_, _<_}
 use mathlib.Core.Path.{sym, _∙_}
 use native.Mathlib.Omega.{arith}
 use borrow.Author.Needs.{needs}
-use Rattle.muxer_rxq.proofs.BuildLaws.{Kept, room, kept-start, kept-skip, kept-full, kept-take, kept-end}
+use Rattle.defs.specs.Limits.{maxRxq}
+use Rattle.conn_map.specs.Table.{usedAt}
+use Rattle.conn_map.proofs.WalkLaws.{walk-room, walk-take, walk-skip}
+use Rattle.muxer_rxq.proofs.BuildLaws.{Kept, kept-start, kept-full, kept-end}
 use Rattle.muxer_rxq.proofs.build.walk.Statement.{statement}
 use Rattle.muxer_rxq.proofs.build.walk.Tie as tie
 
@@ -21,40 +24,38 @@ returns c =
     let t = m .before .before .before in
     kept-full _ _ _ _ _ (t .before .loop .i) (t .before .loop .inv .1) (t .loop-test .taken) (sym (m .is-marked .ensures) ∙ c .before .if1 .taken) (c .if2 .taken)
 
-mul-item : tie.Need-mul-item Inv-loop μ-loop
-mul-item c =
+-- where the limit is not reached, the place behind the items is one of the array's
+room : (c : tie.Else2 Inv-loop μ-loop) → c .before .before .before .before .before .before .before .before .loop .queue .len < maxRxq
+unfolding usedAt
+room c =
     let m = c .before .before .before .before in
     let t = m .before .before .before in
-    let h = room _ _ _ _ _ (t .before .loop .i) (t .before .loop .inv .1) (t .loop-test .taken) (sym (m .is-marked .ensures) ∙ c .before .if1 .taken) (c .if2 .left) in
-    omega arith
+    omega (arith, walk-room _ _ _ _ _ _ _ _ _ _ _ _ (t .before .loop .i) (t .before .loop .inv .1) (t .loop-test .taken) (sym (m .is-marked .ensures) ∙ c .before .if1 .taken) (c .if2 .left))
+
+mul-item : tie.Need-mul-item Inv-loop μ-loop
+mul-item c = let h = room c in omega arith
 
 element-set-from-item : tie.Need-element-set-from-item Inv-loop μ-loop
-element-set-from-item c =
-    let m = c .before .before .before .before in
-    let t = m .before .before .before in
-    let h = room _ _ _ _ _ (t .before .loop .i) (t .before .loop .inv .1) (t .loop-test .taken) (sym (m .is-marked .ensures) ∙ c .before .if1 .taken) (c .if2 .left) in
-    omega arith
+element-set-from-item c = room c
 
 add-queue : tie.Need-add-queue Inv-loop μ-loop
-add-queue c =
-    let m = c .before .before .before .before in
-    let t = m .before .before .before in
-    let h = room _ _ _ _ _ (t .before .loop .i) (t .before .loop .inv .1) (t .loop-test .taken) (sym (m .is-marked .ensures) ∙ c .before .if1 .taken) (c .if2 .left) in
-    omega arith
+add-queue c = let h = room c in omega arith
 
 loop-again : tie.Need-loop-again Inv-loop μ-loop
+unfolding usedAt
 loop-again c =
     let m = c .before .before .before .before in
     let t = m .before .before .before in (
       omega arith,
-      kept-take _ _ _ _ _ (t .before .loop .i) (t .before .loop .inv .1) (t .loop-test .taken) (sym (m .is-marked .ensures) ∙ c .before .if1 .taken) _ (c .before .before .connection .ensures) (c .if2 .left) (omega arith),
+      walk-take _ _ _ _ _ _ _ _ _ _ _ _ (t .before .loop .i) (t .before .loop .inv .1) (t .loop-test .taken) (sym (m .is-marked .ensures) ∙ c .before .if1 .taken) _ (c .before .before .connection .ensures) (c .if2 .left) (omega arith),
     )
 
 loop-again-2 : tie.Need-loop-again-2 Inv-loop μ-loop
+unfolding usedAt
 loop-again-2 c =
     let m = c .before .before .before in
     let t = m .before .before .before in
-    (omega arith, kept-skip _ _ _ _ _ (t .before .loop .i) (t .before .loop .inv .1) (t .loop-test .taken) (sym (m .is-marked .ensures) ∙ c .if1 .left))
+    (omega arith, walk-skip _ _ _ _ _ _ _ _ _ _ _ _ (t .before .loop .i) (t .before .loop .inv .1) (t .loop-test .taken) (sym (m .is-marked .ensures) ∙ c .if1 .left))
 
 returns-2 : tie.Need-returns-2 Inv-loop μ-loop
 returns-2 c = kept-end _ _ _ _ _ (c .before .loop .i) (c .before .loop .inv .1) (c .loop-test .left)

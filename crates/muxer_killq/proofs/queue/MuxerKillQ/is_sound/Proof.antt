@@ -1,10 +1,11 @@
 use borrow.Author.Needs.{needs}
+use Rattle.conn_map.specs.Places.{soundPlaces}
 use Rattle.muxer_killq.specs.Queue.{soundQ}
 use Rattle.muxer_killq.proofs.queue.MuxerKillQ.is_sound.Statement.{statement}
 use Rattle.muxer_killq.proofs.queue.MuxerKillQ.is_sound.Tie as tie
 
 returns : tie.Need-returns
-unfolding soundQ
+unfolding soundQ soundPlaces
 returns c = rw (c .is-clear .ensures, c .before .before .is-killq-limit .ensures)
 
 pub is-sound-spec : {M : Type 1} → statement M

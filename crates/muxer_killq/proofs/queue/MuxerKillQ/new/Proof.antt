@@ -1,24 +1,23 @@
-use mathlib.Core.Path.{ap, _∙_}
+use mathlib.Core.Path.{_≡_, ap, _∙_}
 use borrow.Author.Needs.{needs}
 use Rattle.defs.specs.Ladder.{recordAnswer}
-use Rattle.defs.proofs.AnswerLaws.{outcome-kept, outcome-done}
+use Rattle.defs.specs.Limits.{isKillqLimit}
+use Rattle.conn_map.proofs.QueuedLaws.{made-kept, made-done}
 use Rattle.muxer_killq.specs.Queue.{newOf}
 use Rattle.muxer_killq.proofs.queue.MuxerKillQ.new.Statement.{statement}
 use Rattle.muxer_killq.proofs.queue.MuxerKillQ.new.Tie as tie
 
+-- what the answer is
+answered : (c : tie.After-record-answer) → c .record-answer .result ≡ recordAnswer (isKillqLimit (c .before .before .args .limit))
+answered c = c .record-answer .ensures ∙ ap recordAnswer (c .before .is-killq-limit .ensures)
+
 returns : tie.Need-returns
 unfolding newOf
-returns c =
-    let d = c .before .before in
-    rw (c .empty .ensures)
-    (outcome-kept (λ t x. record { answer = t; queue = x }) _ _ _ _ (d .record-answer .ensures ∙ ap recordAnswer (d .before .is-killq-limit .ensures)) (c .before .match .keys2))
+returns c = made-kept _ _ (answered (c .before .before)) _ _ _ (c .before .match .keys2) (c .empty .ensures)
 
 returns-2 : tie.Need-returns-2
 unfolding newOf
-returns-2 c =
-    let d = c .before .before .before in
-    rw (c .empty2 .ensures)
-    (outcome-done (λ t x. record { answer = t; queue = x }) _ _ _ _ (d .record-answer .ensures ∙ ap recordAnswer (d .before .is-killq-limit .ensures)) (c .before .enum-told .given .1))
+returns-2 c = made-done _ _ (answered (c .before .before .before)) _ _ _ (c .before .enum-told .given .1) (c .empty2 .ensures)
 
 pub new-spec : {M : Type 1} → statement M
 new-spec = tie.close (tie.spec (λ c κs. search needs) (λ c κs. search needs) (λ c. search needs) (λ c κs. search needs) returns (λ c κs. search needs) returns-2)

@@ -1,13 +1,13 @@
 use Prim.Native.Nat.{_<_}
-use mathlib.Core.Path.{_≡_, ap, _∙_}
+use mathlib.Core.Path.{_≡_, ap, sym, _∙_}
 use native.Mathlib.Omega.{arith}
 use borrow.Author.Needs.{needs}
 use lib.ListN.{length}
 use Rattle.defs.specs.Ladder.{recordAnswer}
 use Rattle.defs.specs.Limits.{maxKillq}
-use Rattle.conn_map.proofs.PlacesLaws.{long}
+use Rattle.conn_map.proofs.PlacesLaws.{long, room-within}
 use Rattle.muxer_killq.specs.Queue.{soundQ}
-use Rattle.muxer_killq.proofs.PushLaws.{room-within, push-kept, push-appends, push-turned}
+use Rattle.muxer_killq.proofs.PushLaws.{sound, push-kept, push-appends, push-turned}
 use Rattle.muxer_killq.proofs.queue.MuxerKillQ.push.Statement.{statement}
 use Rattle.muxer_killq.proofs.queue.MuxerKillQ.push.Tie as tie
 
@@ -20,11 +20,11 @@ whole : (c : tie.Start) → length (c .args .self .q) ≡ maxKillq
 whole c = search (needs, long)
 
 -- where there is room, the place behind the items is one of the array's
-at-place : (c : tie.Then1) → c .before .before .before .before .before .before .before .args .self .len < maxKillq
+at-place : (c : tie.Then1) → c .before .before .before .before .before .before .args .self .len < maxKillq
 at-place c =
-    let t = c .before .before .before in
+    let t = c .before .before in
     let s = t .before .before .before .before in
-    room-within (s .args .self) (s .args .key) (s .args .kill-time) _ (answered (t .before .before)) (t .enum-told .given .1) (whole s) (c .if1 .taken)
+    room-within _ _ _ _ _ (sound (s .args .self) (s .args .key) (s .args .kill-time) _ (answered (t .before .before)) (t .enum-told .given .1) (whole s)) _ (sym (c .before .has-room .ensures) ∙ c .if1 .taken)
 
 returns : tie.Need-returns
 returns c = push-kept _ _ _ _ (answered (c .before)) (c .match .keys2)
@@ -40,15 +40,15 @@ add-queue c = let h = at-place c in omega arith
 
 returns-2 : tie.Need-returns-2
 returns-2 c =
-    let t = c .before .before .before in
+    let t = c .before .before in
     let s = t .before .before .before .before in
-    push-appends (s .args .self) (s .args .key) (s .args .kill-time) _ (answered (t .before .before)) (t .enum-told .given .1) (whole s) (c .if1 .taken)
+    push-appends (s .args .self) (s .args .key) (s .args .kill-time) _ (answered (t .before .before)) (t .enum-told .given .1) (whole s) (sym (c .before .has-room .ensures) ∙ c .if1 .taken)
 
 returns-3 : tie.Need-returns-3
 returns-3 c =
-    let t = c .before .before .before in
+    let t = c .before .before in
     let s = t .before .before .before .before in
-    push-turned (s .args .self) (s .args .key) (s .args .kill-time) _ (answered (t .before .before)) (t .enum-told .given .1) (whole s) (c .if1 .left)
+    push-turned (s .args .self) (s .args .key) (s .args .kill-time) _ (answered (t .before .before)) (t .enum-told .given .1) (whole s) (sym (c .before .has-room .ensures) ∙ c .if1 .left)
 
 pub push-spec : {M : Type 1} → statement M
-push-spec = tie.close (tie.spec (search needs) (search needs) (λ c. search needs) returns mul-item element-set-from-item add-queue returns-2 returns-3)
+push-spec = tie.close (tie.spec (search needs) (search needs) (λ c. search needs) returns (λ c κs. search needs) mul-item element-set-from-item add-queue returns-2 returns-3)

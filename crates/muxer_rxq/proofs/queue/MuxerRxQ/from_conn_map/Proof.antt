@@ -1,8 +1,9 @@
 use mathlib.Core.Path.{_≡_}
 use borrow.Author.Needs.{needs}
 use denote.Ref.{now}
-use Rattle.muxer_rxq.specs.Build.{BuildIn, buildAnswer}
-use Rattle.muxer_rxq.proofs.BuildLaws.{ready, build-answer, build-kept, build-done}
+use Rattle.conn_map.proofs.QueuedLaws.{made-kept, made-done}
+use Rattle.muxer_rxq.specs.Build.{BuildIn, buildAnswer, buildOf}
+use Rattle.muxer_rxq.proofs.BuildLaws.{ready, build-answer}
 use Rattle.muxer_rxq.proofs.queue.MuxerRxQ.from_conn_map.Statement.{statement}
 use Rattle.muxer_rxq.proofs.queue.MuxerRxQ.from_conn_map.Tie as tie
 
@@ -15,18 +16,18 @@ unfolding given
 answered c = build-answer _ _ _ _ (c .record-answer .ensures) (c .before .before .is-rxq-limit .ensures) (c .before .is-sound .ensures)
 
 returns : tie.Need-returns
-unfolding given
-returns c = build-kept _ _ _ (answered (c .before .before)) (c .before .match .keys2) (c .empty .ensures)
+unfolding given buildOf
+returns c = made-kept _ _ (answered (c .before .before)) _ _ _ (c .before .match .keys2) (c .empty .ensures)
 
 walk-requires : tie.Need-walk-requires
 unfolding given
 walk-requires c κs =
     let r = ready _ _ (answered (c .before .before)) (c .enum-told .given .1) in
-    (r .most, r .used-long, r .pending-long)
+    (r .in-range, r .used-long, r .marks-long)
 
 returns-2 : tie.Need-returns-2
-unfolding given
-returns-2 c = build-done _ _ _ (answered (c .before .before .before)) (c .before .enum-told .given .1) (c .walk .ensures)
+unfolding given buildOf
+returns-2 c = made-done _ _ (answered (c .before .before .before)) _ _ _ (c .before .enum-told .given .1) (c .walk .ensures)
 
 pub from-conn-map-spec : {M : Type 1} → statement M
 from-conn-map-spec = tie.close (tie.spec (λ c κs. search needs) (λ c κs. search needs) (λ c κs. search needs) (λ c. search needs) (λ c κs. search needs) returns walk-requires returns-2)

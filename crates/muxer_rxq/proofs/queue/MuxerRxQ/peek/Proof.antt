@@ -3,9 +3,10 @@ use borrow.Author.Needs.{needs}
 use lib.ListN.{length}
 use Rattle.defs.specs.Ladder.{recordAnswer}
 use Rattle.defs.specs.Limits.{maxRxq}
-use Rattle.conn_map.proofs.PlacesLaws.{long}
+use Rattle.conn_map.proofs.PlacesLaws.{long, positive, none-held, front-first}
+use Rattle.conn_map.proofs.LookLaws.{record-passed, peek-kept, peek-none, peek-front}
 use Rattle.muxer_rxq.specs.Queue.{soundQ}
-use Rattle.muxer_rxq.proofs.PopLaws.{positive, peek-kept, peek-none, peek-front}
+use Rattle.muxer_rxq.proofs.QueueLaws.{sound-says}
 use Rattle.muxer_rxq.proofs.queue.MuxerRxQ.peek.Statement.{statement}
 use Rattle.muxer_rxq.proofs.queue.MuxerRxQ.peek.Tie as tie
 
@@ -18,19 +19,21 @@ whole : (c : tie.Start) → length (c .args .t1 .q) ≡ maxRxq
 whole c = search (needs, long)
 
 returns : tie.Need-returns
-returns c = peek-kept _ _ (answered (c .before)) _ (c .before .before .before .zero-item .ensures) (c .match .keys2)
+returns c = peek-kept _ _ _ _ (answered (c .before)) _ (c .before .before .before .zero-item .ensures) (c .match .keys2)
 
 returns-2 : tie.Need-returns-2
 returns-2 c =
     let t = c .before in
     let z = t .before .before .before .before in
-    peek-none (z .before .args .t1) _ (answered (t .before .before)) _ (z .zero-item .ensures) (t .enum-told .given .1) (whole (z .before)) (c .if1 .taken)
+    peek-none _ _ _ _ (answered (t .before .before)) (t .enum-told .given .1) _ (z .zero-item .ensures) (none-held _ _ (c .if1 .taken))
 
 returns-3 : tie.Need-returns-3
 returns-3 c =
     let t = c .before .before in
     let z = t .before .before .before .before in
-    peek-front (z .before .args .t1) _ (answered (t .before .before)) _ (z .zero-item .ensures) (t .enum-told .given .1) (whole (z .before)) (positive _ (c .before .if1 .left))
+    let a = answered (t .before .before) in
+    let d = t .enum-told .given .1 in
+    peek-front _ _ _ _ a d _ _ (front-first _ _ _ _ _ (sound-says (z .before .args .t1) (whole (z .before)) (record-passed _ _ a d)) (positive _ (c .before .if1 .left)))
 
 pub peek-spec : {M : Type 1} → statement M
 peek-spec = tie.close (tie.spec (search needs) (search needs) (search needs) (λ c. search needs) returns returns-2 (search needs) returns-3)
