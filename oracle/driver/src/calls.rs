@@ -133,11 +133,11 @@ fn ring(call: &Frame) -> Frame {
     }
 }
 
-fn ring_of(size: u32, head: u32, tail: u32) -> Ring {
+pub fn ring_of(size: u32, head: u32, tail: u32) -> Ring {
     Ring { size, head, tail }
 }
 
-fn rust_ring(ring: &Ring, storage: &[u8]) -> TxBuf {
+pub fn rust_ring(ring: &Ring, storage: &[u8]) -> TxBuf {
     let bare = ring.head == ring.tail && storage.iter().all(|b| *b == 0);
     TxBuf {
         data: (!bare).then(|| storage.to_vec().into_boxed_slice()),
@@ -230,7 +230,7 @@ fn conn_left(call: &Frame, number: u8, conn: &Conn) -> Frame {
     reply
 }
 
-fn zero_conn() -> Conn {
+pub fn zero_conn() -> Conn {
     Conn::read(&Frame::new(0))
 }
 
@@ -415,7 +415,7 @@ fn queue_left(call: &Frame, number: u8, queue: &Queue) -> Frame {
     reply
 }
 
-fn rxq_read(rust: &MuxerRxQ, limit: u64) -> Queue {
+pub fn rxq_read(rust: &MuxerRxQ, limit: u64) -> Queue {
     Queue::of(
         limit,
         rust.synced,
@@ -497,7 +497,7 @@ fn rxq(call: &Frame) -> Frame {
 }
 
 /// The Rust's table, in slot order; `mark` puts a slot's mark into its connection.
-fn conn_map(
+pub fn conn_map(
     slots: &[Slot],
     mark: impl Fn(&Slot, &mut Conn),
 ) -> HashMap<ConnMapKey, VsockConnection> {
@@ -519,14 +519,14 @@ fn conn_map(
 
 // ---- the kill queue
 
-fn kill_item(item: &Item) -> MuxerKillQItem {
+pub fn kill_item(item: &Item) -> MuxerKillQItem {
     MuxerKillQItem {
         key: key_probe::key(item.local_port, item.peer_port),
         kill_time: Instant::at_ms(item.time),
     }
 }
 
-fn item_of_kill(item: &MuxerKillQItem) -> Item {
+pub fn item_of_kill(item: &MuxerKillQItem) -> Item {
     let (local_port, peer_port) = key_probe::ports(&item.key);
     Item {
         rst: false,
@@ -536,7 +536,7 @@ fn item_of_kill(item: &MuxerKillQItem) -> Item {
     }
 }
 
-fn killq_read(rust: &MuxerKillQ, limit: u64) -> Queue {
+pub fn killq_read(rust: &MuxerKillQ, limit: u64) -> Queue {
     Queue::of(
         limit,
         rust.synced,
@@ -546,7 +546,7 @@ fn killq_read(rust: &MuxerKillQ, limit: u64) -> Queue {
 
 /// The Rust leaves open in what order equal times stand; 01 has slot order. What it gives must be
 /// in order of time; then equal times are put in slot order.
-fn ties_by_slot(mut queue: Queue, slots: &[Slot]) -> Queue {
+pub fn ties_by_slot(mut queue: Queue, slots: &[Slot]) -> Queue {
     assert!(queue.places.is_sorted_by_key(|item| item.time));
     let place = |item: &Item| {
         let ports = (item.local_port, item.peer_port);

@@ -1,5 +1,6 @@
 //! The oracle: makes calls, runs them through the Rust, and shows them (oracle/README.md).
 #![allow(dead_code, unused_doc_comments, unused_imports)]
+mod beyond;
 mod calls;
 mod entries;
 mod frame;
@@ -23,7 +24,8 @@ const USAGE: &str = "usage: oracle COMMAND
   small BYTES CALLS <calls        keeps the first calls of so few bytes
   tally <replies                  counts replies by entry, answer and mark
   show <replies                   prints replies
-  differ CALLS REPLIES OTHERS     prints the first call whose replies differ";
+  differ CALLS REPLIES OTHERS     prints the first call whose replies differ
+  beyond                          what the Rust does where docs/DIFFERENCES.md says that it differs";
 
 fn main() -> Result<()> {
     let words: Vec<String> = std::env::args().skip(1).collect();
@@ -39,6 +41,7 @@ fn main() -> Result<()> {
             }
         }
         ["small", bytes, calls] => small(number(bytes), number(calls), input, output)?,
+        ["beyond"] => beyond::all(output)?,
         ["tally"] => tally(input, output)?,
         ["differ", calls, replies, others] => differ(calls, replies, others, output)?,
         _ => {

@@ -516,6 +516,15 @@ impl Maker {
         }
     }
 
+    /// A build's limit: often so large that most of a table fits. The Rust's sort leaves equal
+    /// times in slot order up to 32 items.
+    fn build_limit(&mut self, most: u64) -> u64 {
+        match self.below(3) {
+            0 => self.pick(&[30, 40, 50, most]),
+            _ => self.limit(most),
+        }
+    }
+
     fn port(&mut self) -> u32 {
         match self.below(8) {
             0 => self.next() as u32,
@@ -575,6 +584,7 @@ impl Maker {
             0 => self.pick(&[0, 513]),
             1 => 512,
             2..4 => self.pick(&[200, 300]),
+            4..12 => 30 + self.below(30),
             _ => 1 + self.below(9),
         };
         let twice = self.one_in(12);
@@ -637,7 +647,7 @@ impl Maker {
             }
             RXQ_FROM_CONN_MAP => {
                 call = Frame::new(entry);
-                call.set_u64(at::LIMIT, self.limit(MAX_RXQ));
+                call.set_u64(at::LIMIT, self.build_limit(MAX_RXQ));
                 self.table(&mut call, false);
             }
             RXQ_PUSH => {
@@ -676,7 +686,7 @@ impl Maker {
             }
             KILLQ_FROM_CONN_MAP => {
                 call = Frame::new(entry);
-                call.set_u64(at::LIMIT, self.limit(MAX_KILLQ));
+                call.set_u64(at::LIMIT, self.build_limit(MAX_KILLQ));
                 let clock = self.clock(Some(3_000));
                 call.set_u64(at::CLOCK, clock);
                 self.table(&mut call, true);

@@ -17,6 +17,7 @@ struct Script {
     writes: Vec<Answer>,
     read: Option<Answer>,
     read_bytes: Vec<u8>,
+    lies: bool,
     seen: Seen,
 }
 
@@ -40,10 +41,31 @@ pub fn during<T>(
     read_bytes: &[u8],
     call: impl FnOnce() -> T,
 ) -> (T, Seen) {
+    scripted(writes, read, read_bytes, false, call)
+}
+
+/// The same with a stream that gives its counts as they are, also where they are too large.
+pub fn lying<T>(
+    writes: [Answer; 2],
+    read: Answer,
+    read_bytes: &[u8],
+    call: impl FnOnce() -> T,
+) -> (T, Seen) {
+    scripted(writes, read, read_bytes, true, call)
+}
+
+fn scripted<T>(
+    writes: [Answer; 2],
+    read: Answer,
+    read_bytes: &[u8],
+    lies: bool,
+    call: impl FnOnce() -> T,
+) -> (T, Seen) {
     SCRIPT.set(Script {
         writes: writes.into(),
         read: Some(read),
         read_bytes: read_bytes.to_vec(),
+        lies,
         seen: Seen::default(),
     });
     let result = call();
@@ -66,7 +88,7 @@ impl Write for Scripted {
                     script.seen.bad |= count > bytes.len() as u64;
                     let taken = count.min(bytes.len() as u64) as usize;
                     script.seen.taken.extend_from_slice(&bytes[..taken]);
-                    Ok(taken)
+                    Ok(if script.lies { count as usize } else { taken })
                 }
                 Answer::WouldBlock => stopped(ErrorKind::WouldBlock),
                 Answer::Failed => stopped(ErrorKind::Other),
@@ -87,7 +109,7 @@ impl Read for Scripted {
                 script.seen.bad |= count > most as u64;
                 let read = count.min(most as u64) as usize;
                 room[..read].copy_from_slice(&script.read_bytes[..read]);
-                Ok(read)
+                Ok(if script.lies { count as usize } else { read })
             }
             Answer::WouldBlock => stopped(ErrorKind::WouldBlock),
             Answer::Failed => stopped(ErrorKind::Other),
