@@ -1,5 +1,5 @@
 # Two commands: `make run` runs the main job, `make test` proves, tests and compares everything.
-.PHONY: run test leaf vectors compare compare-if-at-hand slips coverage
+.PHONY: run test leaf vectors compare compare-if-at-hand beyond slips coverage
 
 # 01's readings, run through the proved code.
 run:
@@ -29,6 +29,12 @@ compare:
 # The same where cargo and the Rust are at hand; the stored sample is compared by rt ci in any case.
 compare-if-at-hand:
 	oracle/compare-if-at-hand.sh $(SEED) $(CALLS)
+
+# What the Rust does with the calls of docs/DIFFERENCES.md.
+beyond:
+	@mkdir -p target/oracle
+	@oracle/build.sh >target/oracle/build.log || { cat target/oracle/build.log; exit 1; }
+	@target/oracle/build/release/oracle beyond
 
 # Slips put into a copy of the Rust: the comparison must find each.
 slips:
