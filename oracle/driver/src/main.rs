@@ -23,7 +23,7 @@ const USAGE: &str = "usage: oracle COMMAND
   run <calls >replies             runs calls through the Rust
   small BYTES CALLS <calls        keeps the first calls of so few bytes
   tally <replies                  counts replies by entry, answer and mark
-  show <replies                   prints replies
+  show calls|replies <frames      prints them
   differ CALLS REPLIES OTHERS     prints the first call whose replies differ
   beyond                          what the Rust does where docs/DIFFERENCES.md says that it differs";
 
@@ -35,9 +35,13 @@ fn main() -> Result<()> {
     match words[..] {
         ["gen", seed, batch, calls] => gen(number(seed), number(batch), number(calls), output)?,
         ["run"] => run(input, output)?,
-        ["show"] => {
+        ["show", what] => {
             while let Some(frame) = Frame::read(input)? {
-                writeln!(output, "{}", show::reply(&frame))?;
+                let text = match what {
+                    "calls" => show::call(&frame),
+                    _ => show::reply(&frame),
+                };
+                writeln!(output, "{text}\n")?;
             }
         }
         ["small", bytes, calls] => small(number(bytes), number(calls), input, output)?,

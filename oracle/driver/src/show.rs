@@ -94,25 +94,74 @@ fn answer(answer: Answer) -> String {
     }
 }
 
-pub fn call(frame: &Frame) -> String {
-    let mut text = format!("{}\n{}", name(frame.entry()), body(frame));
-    let [first, second] = frame.answers();
-    write!(text, "  stream {}, then {}", answer(first), answer(second)).unwrap();
-    write!(
-        text,
-        "; clock or time {}, {}",
-        frame.u64(at::CLOCK),
-        frame.u64(at::TIME)
-    )
-    .unwrap();
-    let [present, readable, writable] =
-        [at::PRESENT, at::READABLE, at::WRITABLE].map(|place| frame.yes(place));
-    write!(text, "; buffer {present}, in {readable}, out {writable}").unwrap();
-    if frame.entry() == SEND_PKT && frame.runs[HDR].len() == 44 {
-        let hdr = &frame.runs[HDR];
-        write!(text, "; op {}, len {}", calls::op(hdr), calls::len(hdr)).unwrap();
+/// What a call is given beside its record and its runs.
+fn arguments(frame: &Frame) -> String {
+    let [first, second] = frame.answers().map(answer);
+    let clock = frame.u64(at::CLOCK);
+    let present = if frame.yes(at::PRESENT) {
+        "a buffer"
+    } else {
+        "no buffer"
+    };
+    let kind = if frame.yes(at::RST) {
+        "RST"
+    } else {
+        "connection"
+    };
+    let (local_port, peer_port) = (frame.u32(at::LOCAL_PORT), frame.u32(at::PEER_PORT));
+    match frame.entry() {
+        RING_FLUSH_TO => format!("  stream: {first}, then {second}"),
+        SEND_PKT => format!(
+            "  clock {clock}, {present}, {}\n  stream: {first}, then {second}",
+            packet(&frame.runs[HDR])
+        ),
+        RECV_PKT => format!("  clock {clock}, {present}, read: {first}"),
+        NOTIFY => format!(
+            "  in {}, out {}, stream: {first}, then {second}",
+            frame.yes(at::READABLE),
+            frame.yes(at::WRITABLE)
+        ),
+        SEND_BYTES_RAW => format!("  stream: {first}"),
+        WILL_EXPIRE | HAS_EXPIRED | KILLQ_POP | KILLQ_FROM_CONN_MAP => format!("  clock {clock}"),
+        RXQ_PUSH => format!("  item: {kind} {local_port} {peer_port}"),
+        KILLQ_PUSH => format!(
+            "  item: {local_port} {peer_port} at {}",
+            frame.u64(at::TIME)
+        ),
+        KILLQ_ITEM_EQ => format!(
+            "  items: {local_port} {peer_port} at {}, {} {} at {}",
+            frame.u64(at::TIME),
+            frame.u32(at::OTHER_LOCAL_PORT),
+            frame.u32(at::OTHER_PEER_PORT),
+            frame.u64(at::OTHER_TIME)
+        ),
+        _ => String::new(),
     }
-    text
+}
+
+fn packet(hdr: &[u8]) -> String {
+    if hdr.len() != 44 {
+        return format!("a header of {} bytes", hdr.len());
+    }
+    let number = |place: usize| u32::from_le_bytes(hdr[place..place + 4].try_into().unwrap());
+    format!(
+        "op {}, len {}, flags {}, alloc {}, fwd {}",
+        calls::op(hdr),
+        calls::len(hdr),
+        number(32),
+        number(36),
+        number(40)
+    )
+}
+
+pub fn call(frame: &Frame) -> String {
+    let text = format!(
+        "{}\n{}{}",
+        name(frame.entry()),
+        body(frame),
+        arguments(frame)
+    );
+    text.trim_end().to_string()
 }
 
 pub fn reply(frame: &Frame) -> String {
