@@ -23,6 +23,7 @@ const USAGE: &str = "usage: oracle COMMAND
   run <calls >replies             runs calls through the Rust
   small BYTES CALLS <calls        keeps the first calls of so few bytes
   tally <replies                  counts replies by entry, answer and mark
+  states <calls                   counts a connection's compared calls by state
   show calls|replies <frames      prints them
   differ CALLS REPLIES OTHERS     prints the first call whose replies differ
   beyond                          what the Rust does where docs/DIFFERENCES.md says that it differs";
@@ -35,6 +36,7 @@ fn main() -> Result<()> {
     match words[..] {
         ["gen", seed, batch, calls] => gen(number(seed), number(batch), number(calls), output)?,
         ["run"] => run(input, output)?,
+        ["states"] => states(input, output)?,
         ["show", what] => {
             while let Some(frame) = Frame::read(input)? {
                 let text = match what {
@@ -98,6 +100,35 @@ fn tally(input: &mut impl Read, output: &mut impl Write) -> Result<()> {
         writeln!(output, "{entry} {name} {answer} {} {count}", mark as char)?;
     }
     Ok(())
+}
+
+/// A line for each state, with how often each kind of call met it.
+fn states(input: &mut impl Read, output: &mut impl Write) -> Result<()> {
+    let mut counts: BTreeMap<String, [u64; 7]> = BTreeMap::new();
+    while let Some(call) = Frame::read(input)? {
+        let kind = match call.entry() {
+            _ if call.u8(at::MARK) != frame::BY_RUST => continue,
+            entries::SEND_PKT => match calls::op(&call.runs[frame::HDR]) {
+                5 => 0,
+                2 => 1,
+                4 => 2,
+                7 => 3,
+                _ => 4,
+            },
+            entries::RECV_PKT => 5,
+            entries::NOTIFY => 6,
+            _ => continue,
+        };
+        let state = format!("{:?}", record::State::read(&call));
+        counts.entry(state).or_default()[kind] += 1;
+    }
+    writeln!(
+        output,
+        "state: RW, RESPONSE, SHUTDOWN, CREDIT_REQUEST, other ops; receive; notify"
+    )?;
+    counts
+        .iter()
+        .try_for_each(|(state, counts)| writeln!(output, "{state}: {counts:?}"))
 }
 
 /// The first call whose replies differ.

@@ -166,7 +166,7 @@ pub fn call(frame: &Frame) -> String {
 
 pub fn reply(frame: &Frame) -> String {
     format!(
-        "{}: {} ({}), value {}, {}, by {}\n{}",
+        "{}: {} ({}), value {}, {}, against {}\n{}",
         name(frame.entry()),
         frame.u8(at::NUMBER),
         frame.u8(at::WHICH),
