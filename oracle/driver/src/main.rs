@@ -21,7 +21,7 @@ use frame::{at, Frame};
 const USAGE: &str = "usage: oracle COMMAND
   gen SEED BATCH CALLS >calls     makes calls
   run <calls >replies             runs calls through the Rust
-  small BYTES CALLS <calls        keeps the first calls of so few bytes
+  sized OVER MOST CALLS <calls    keeps the first calls whose bytes are over one number and at most another
   tally <replies                  counts replies by entry, answer and mark
   states <calls                   counts a connection's compared calls by state
   show calls|replies <frames      prints them
@@ -46,7 +46,9 @@ fn main() -> Result<()> {
                 writeln!(output, "{text}\n")?;
             }
         }
-        ["small", bytes, calls] => small(number(bytes), number(calls), input, output)?,
+        ["sized", over, most, calls] => {
+            sized(number(over)..number(most), number(calls), input, output)?
+        }
         ["beyond"] => beyond::all(output)?,
         ["tally"] => tally(input, output)?,
         ["differ", calls, replies, others] => differ(calls, replies, others, output)?,
@@ -77,10 +79,15 @@ fn run(input: &mut impl Read, output: &mut impl Write) -> Result<()> {
     Ok(())
 }
 
-fn small(bytes: u64, calls: u64, input: &mut impl Read, output: &mut impl Write) -> Result<()> {
+fn sized(
+    bytes: std::ops::Range<u64>,
+    calls: u64,
+    input: &mut impl Read,
+    output: &mut impl Write,
+) -> Result<()> {
     let mut kept = 0;
     while let Some(call) = Frame::read(input)? {
-        if kept < calls && call.bytes() <= bytes {
+        if kept < calls && bytes.contains(&(call.bytes() - 1)) {
             call.write(output)?;
             kept += 1;
         }
