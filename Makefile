@@ -1,5 +1,5 @@
 # Two commands: `make run` runs the main job, `make test` proves, tests and compares everything.
-.PHONY: run test leaf vectors
+.PHONY: run test leaf vectors compare compare-if-at-hand beyond slips coverage
 
 # 01's readings, run through the proved code.
 run:
@@ -10,7 +10,7 @@ run:
 # The last line is rt ci's own: 'N passed, 0 failed'.
 test: leaf
 	rt fmt --check
-	rt ci
+	scripts/test-all $(SEED) $(CALLS)
 
 # What the copying leaf compiles to.
 leaf:
@@ -19,3 +19,27 @@ leaf:
 # The outside vectors of the header, laid out anew by the C compiler (docs/TESTING.md).
 vectors:
 	scripts/header-vectors
+
+# The port beside the original Rust, call by call (oracle/README.md): by default a new seed.
+SEED ?= $(shell date +%s%N)
+CALLS ?= 20000
+compare:
+	oracle/compare.sh $(SEED) $(CALLS)
+
+# The same where cargo and the Rust are at hand; the stored sample is compared by rt ci in any case.
+compare-if-at-hand:
+	oracle/compare-if-at-hand.sh $(SEED) $(CALLS)
+
+# What the Rust does with the calls of docs/DIFFERENCES.md.
+beyond:
+	@mkdir -p target/oracle
+	@oracle/build.sh >target/oracle/build.log || { cat target/oracle/build.log; exit 1; }
+	@target/oracle/build/release/oracle beyond
+
+# Slips put into a copy of the Rust: the comparison must find each.
+slips:
+	oracle/slips.sh
+
+# The lines of the Rust that the calls reach.
+coverage:
+	oracle/coverage.sh

@@ -1,0 +1,38 @@
+#!/usr/bin/env bash
+# compare.sh SEED CALLS: makes calls by a seed, runs each through the Rust and through the port, and compares the replies byte
+# for byte. The calls go in batches, so that nothing grows; the counts of every entry and answer stand in target/oracle/counts.
+set -eu
+cd "$(dirname "$0")/.."
+seed=$1 calls=$2
+dir=target/oracle
+oracle=$dir/build/release/oracle
+batch=50000
+
+mkdir -p $dir
+oracle/build.sh >$dir/build.log || { cat $dir/build.log; exit 1; }
+tail -n 1 $dir/build.log
+oracle/port.sh
+
+run=$(mktemp -d $dir/run.XXXXXX)
+trap 'rm -rf "$run"' EXIT
+start=$(date +%s)
+done=0
+for ((b = 0; done < calls; b++)); do
+    n=$((calls - done < batch ? calls - done : batch))
+    $oracle gen "$seed" "$b" "$n" >"$run/calls"
+    $oracle run <"$run/calls" >"$run/rust"
+    target/bin/replay_calls <"$run/calls" >"$run/port"
+    if ! cmp -s "$run/rust" "$run/port"; then
+        echo "compare: seed $seed, batch $b:"
+        $oracle differ "$run/calls" "$run/rust" "$run/port"
+        exit 1
+    fi
+    $oracle tally <"$run/rust" >>"$run/tallies"
+    done=$((done + n))
+    [ "$calls" -le "$batch" ] || echo "compare: $done of $calls calls, $(($(date +%s) - start)) s" >&2
+done
+
+# Columns: entry, name, answer, whose reply (R the Rust's, - what 01 says), how often.
+awk '{ n[$1 " " $2 " " $3 " " $4] += $5 } END { for (k in n) print k, n[k] }' "$run/tallies" | sort -n -k1,1 -k3,3 -k4,4 >$dir/counts
+awk -v seed="$seed" -v s=$(($(date +%s) - start)) \
+    '{ all += $5; if ($4 == "R") rust += $5 } END { printf "compare: seed %s, %d calls without a difference in %d s: %d against the Rust, %d refusals against 01\n", seed, all, s, rust, all - rust }' $dir/counts

@@ -1,0 +1,159 @@
+//! The oracle: makes calls, runs them through the Rust, and shows them (oracle/README.md).
+#![allow(dead_code, unused_doc_comments, unused_imports)]
+mod beyond;
+mod calls;
+mod entries;
+mod frame;
+mod make;
+mod record;
+mod settings;
+mod shim;
+mod show;
+mod stream;
+mod vsock;
+
+use std::collections::BTreeMap;
+use std::fs::File;
+use std::io::{BufReader, BufWriter, Read, Result, Write};
+
+use frame::{at, Frame};
+
+const USAGE: &str = "usage: oracle COMMAND
+  gen SEED BATCH CALLS >calls     makes calls
+  run <calls >replies             runs calls through the Rust
+  sized OVER MOST CALLS <calls    keeps the first calls whose bytes are over one number and at most another
+  tally <replies                  counts replies by entry, answer and mark
+  states <calls                   counts a connection's compared calls by state
+  show calls|replies <frames      prints them
+  differ CALLS REPLIES OTHERS     prints the first call whose replies differ
+  beyond                          what the Rust does where docs/DIFFERENCES.md says that it differs";
+
+fn main() -> Result<()> {
+    let words: Vec<String> = std::env::args().skip(1).collect();
+    let words: Vec<&str> = words.iter().map(String::as_str).collect();
+    let input = &mut BufReader::with_capacity(1 << 16, std::io::stdin().lock());
+    let output = &mut BufWriter::with_capacity(1 << 16, std::io::stdout().lock());
+    match words[..] {
+        ["gen", seed, batch, calls] => gen(number(seed), number(batch), number(calls), output)?,
+        ["run"] => run(input, output)?,
+        ["states"] => states(input, output)?,
+        ["show", what] => {
+            while let Some(frame) = Frame::read(input)? {
+                let text = match what {
+                    "calls" => show::call(&frame),
+                    _ => show::reply(&frame),
+                };
+                writeln!(output, "{text}\n")?;
+            }
+        }
+        ["sized", over, most, calls] => {
+            sized(number(over)..number(most), number(calls), input, output)?
+        }
+        ["beyond"] => beyond::all(output)?,
+        ["tally"] => tally(input, output)?,
+        ["differ", calls, replies, others] => differ(calls, replies, others, output)?,
+        _ => {
+            eprintln!("{USAGE}");
+            std::process::exit(2);
+        }
+    }
+    output.flush()
+}
+
+fn number(word: &str) -> u64 {
+    word.parse().expect("a number")
+}
+
+fn gen(seed: u64, batch: u64, calls: u64, output: &mut impl Write) -> Result<()> {
+    let mut maker = make::Maker::new(seed, batch);
+    (0..calls).try_for_each(|_| maker.next_call().write(output))
+}
+
+fn run(input: &mut impl Read, output: &mut impl Write) -> Result<()> {
+    while let Some(call) = Frame::read(input)? {
+        let reply = calls::reply(&call);
+        let mark = at::MARK;
+        assert_eq!(call.u8(mark), reply.u8(mark), "{}", show::call(&call));
+        reply.write(output)?;
+    }
+    Ok(())
+}
+
+fn sized(
+    bytes: std::ops::Range<u64>,
+    calls: u64,
+    input: &mut impl Read,
+    output: &mut impl Write,
+) -> Result<()> {
+    let mut kept = 0;
+    while let Some(call) = Frame::read(input)? {
+        if kept < calls && bytes.contains(&(call.bytes() - 1)) {
+            call.write(output)?;
+            kept += 1;
+        }
+    }
+    Ok(())
+}
+
+/// A line for each entry and answer: how often it came, by the mark.
+fn tally(input: &mut impl Read, output: &mut impl Write) -> Result<()> {
+    let mut counts = BTreeMap::new();
+    while let Some(reply) = Frame::read(input)? {
+        let key = (reply.entry(), reply.u8(at::NUMBER), reply.u8(at::MARK));
+        *counts.entry(key).or_insert(0u64) += 1;
+    }
+    for ((entry, answer, mark), count) in counts {
+        let name = entries::name(entry).replace(' ', "_");
+        writeln!(output, "{entry} {name} {answer} {} {count}", mark as char)?;
+    }
+    Ok(())
+}
+
+/// A line for each state, with how often each kind of call met it.
+fn states(input: &mut impl Read, output: &mut impl Write) -> Result<()> {
+    let mut counts: BTreeMap<String, [u64; 7]> = BTreeMap::new();
+    while let Some(call) = Frame::read(input)? {
+        let kind = match call.entry() {
+            _ if call.u8(at::MARK) != frame::BY_RUST => continue,
+            entries::SEND_PKT => match calls::op(&call.runs[frame::HDR]) {
+                5 => 0,
+                2 => 1,
+                4 => 2,
+                7 => 3,
+                _ => 4,
+            },
+            entries::RECV_PKT => 5,
+            entries::NOTIFY => 6,
+            _ => continue,
+        };
+        let state = format!("{:?}", record::State::read(&call));
+        counts.entry(state).or_default()[kind] += 1;
+    }
+    writeln!(
+        output,
+        "state: RW, RESPONSE, SHUTDOWN, CREDIT_REQUEST, other ops; receive; notify"
+    )?;
+    counts
+        .iter()
+        .try_for_each(|(state, counts)| writeln!(output, "{state}: {counts:?}"))
+}
+
+/// The first call whose replies differ.
+fn differ(calls: &str, replies: &str, others: &str, output: &mut impl Write) -> Result<()> {
+    let open = |name| Ok::<_, std::io::Error>(BufReader::new(File::open(name)?));
+    let (mut calls, mut replies, mut others) = (open(calls)?, open(replies)?, open(others)?);
+    let mut place = 0u64;
+    while let Some(call) = Frame::read(&mut calls)? {
+        place += 1;
+        let rust = Frame::read(&mut replies)?;
+        let rattle = Frame::read(&mut others).unwrap_or(None);
+        if rust != rattle {
+            writeln!(output, "call {place} differs\n{}", show::call(&call))?;
+            let shown = |reply: Option<Frame>| reply.map_or("nothing".into(), |r| show::reply(&r));
+            writeln!(output, "the Rust says\n{}", shown(rust))?;
+            writeln!(output, "the port says\n{}", shown(rattle))?;
+            return Ok(());
+        }
+    }
+    writeln!(output, "no difference in {place} calls")
+}

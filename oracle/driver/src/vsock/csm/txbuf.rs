@@ -1,0 +1,3 @@
+#[allow(unused_imports)]
+use crate::shim as std;
+include!(concat!(env!("CARGO_MANIFEST_DIR"), "/original/txbuf.rs"));

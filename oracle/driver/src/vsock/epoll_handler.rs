@@ -1,0 +1,1 @@
+//! Stands in for the original; nothing that is compared uses it.

@@ -1,0 +1,4 @@
+#[allow(unused_imports)]
+use crate::shim as std;
+include!(concat!(env!("CARGO_MANIFEST_DIR"), "/original/packet.rs"));
+pub mod probe;
