@@ -278,7 +278,7 @@ unfolding peerInitOf localInitOf zeroConn whenDone
 opening-fits true o left e =
     rw e (fit-either (isDone (openAnswer (o .size) (o .settings))) _ _ (fresh-fits o PeerInit _ (λ x. inl refl)) (fresh-fits _ LocalInit _ (λ x. absurd (never x))))
 opening-fits false o left e =
-    rw e (fit-either (isDone (openAnswer (o .size) (o .settings))) _ _ (fresh-fits o LocalInit _ (λ x. absurd (never x))) (fresh-fits _ LocalInit _ (λ x. absurd (never x))))
+    rw e (fit-either (isDone (openAnswer (o .size) (o .settings))) _ _ (fresh-fits _ LocalInit _ (λ x. absurd (never x))) (fresh-fits _ LocalInit _ (λ x. absurd (never x))))
 
 pub flags-only-grow : FlagsOnlyGrow
 flags-only-grow s t c store r e m = by-call c store e m .grow (fits-on (opening-fits (s .guest) (s .given) (s .left) (r .opened)) (r .steps))

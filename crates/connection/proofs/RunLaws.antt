@@ -71,7 +71,7 @@ begun-either a x y p q =
 begun : (guest : Bool) (o : Opening) (left : ConnLeft) → Opens guest o left → Begun (left .conn)
 unfolding peerInitOf localInitOf zeroConn
 begun true o left e = rw e (begun-either (openAnswer (o .size) (o .settings)) _ _ (begun-fresh o _ _) (begun-fresh _ _ _))
-begun false o left e = rw e (begun-either (openAnswer (o .size) (o .settings)) _ _ (begun-fresh o _ _) (begun-fresh _ _ _))
+begun false o left e = rw e (begun-either (openAnswer (o .size) (o .settings)) _ _ (begun-fresh _ _ _) (begun-fresh _ _ _))
 
 opening-kept : (c : VsockConnection) (store : List ℕ) → Begun c → Kept [] c store
 unfolding gathered held heldFrom

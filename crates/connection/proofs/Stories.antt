@@ -1,8 +1,9 @@
 -- The stories of specs/Stories: each is a run, each theorem is applied to it, and what it comes to is computed. Assumes nothing.
 use mathlib.Core.Path.{_≡_, refl, sym, _∙_}
 use mathlib.Core.Bool.{true, false}
-use mathlib.Core.List.{[], _∷_}
+use mathlib.Core.List.{[], _∷_, _++_}
 use native.Mathlib.Omega.{arith}
+use lib.ListN.{replicate}
 use Rattle.defs.specs.Choice.{when}
 use Rattle.defs.specs.Answer.{isDone, whenDone}
 use Rattle.defs.specs.Limits.{isRingSize, isThreshold, isTimeout, isClock, isPacketLength, isHeaderLength}
@@ -16,12 +17,12 @@ use Rattle.txbuf.specs.Push.{runs, pushDone}
 use Rattle.txbuf.specs.Flush.{takenBy, overBy, endsBy, flushCount, flushOver, flushAnswer, flushDone, flushKept, flushOf}
 use Rattle.connection.specs.Record.{okSettings, soundConn, soundOver, quiet, creditOf, withState, killedOf}
 use Rattle.connection.specs.Notify.{seenOf, absorbed, settledOf, drainedOf, notifyDoor, notifyAnswer, notifyDone, notifyKept, notifyOf}
-use Rattle.connection.specs.Open.{freshOf, openAnswer, peerInitOf}
+use Rattle.connection.specs.Open.{freshOf, openAnswer, peerInitOf, localInitOf}
 use Rattle.connection.specs.Moves.{sendTaken, notifyTaken}
 use Rattle.connection.specs.Receive.{nextStep, spokenOf, receivedOf, headerOf, recvDoor, readsOf, recvRefusal, recvDone, recvKept, recvOf}
-use Rattle.connection.specs.Send.{heardOf, movedOf, updatedOf, onShutdown, onData, ruleOf, goesOf, planOf, killsOf, sendDoorOf, sendLate, carried, sendDoor, sendAnswer, sendDone, sendKept, sendOf, accepted}
+use Rattle.connection.specs.Send.{heardOf, movedOf, updatedOf, onResponse, onShutdown, onData, ruleOf, goesOf, planOf, killsOf, sendDoorOf, sendLate, carried, sendDoor, sendAnswer, sendDone, sendKept, sendOf, accepted}
 use Rattle.connection.specs.Runs.{before, after, storeAfter, Steps, none, then, Run, tookBy, acceptedBy, deliveredBy, gathered, outs, Pushless}
-use Rattle.connection.specs.Stories.{startA, a1, a2, a3, a4, a5, a6, a7, storeA, storyA, upToA5, endStoreA, startB, b1, b2, b3, b4, storyB, endStoreB, c3, c4, storyC, endStoreC, d2, storeD, d3, d4, d5, draining, ten, StoriesHold}
+use Rattle.connection.specs.Stories.{startA, a1, a2, a3, a4, a5, a6, a7, storeA, storyA, upToA5, endStoreA, startB, b1, b2, b3, b4, storyB, endStoreB, c3, c4, storyC, endStoreC, d2, storeD, d3, d4, d5, draining, startE, e1, e2, e3, e4, e5, storyE, endStoreE, ten, StoriesHold}
 use Rattle.connection.specs.declared.state.ConnState.the-variants.{PeerClosed, Killed}
 use Rattle.connection.proofs.RunLaws.{every-run-forwards, cuts-do-not-matter}
 use Rattle.connection.proofs.FlagLaws.{flags-only-grow}
@@ -45,6 +46,13 @@ run-b = record {
 run-c : Run startA storyC (after c4) endStoreC
 run-c = record { opened = refl; steps = then (then up-to-a2 c3 (refl, refl, refl)) c4 (refl, refl, refl) }
 
+run-e : Run startE storyE (after e5) endStoreE
+run-e = record {
+  opened = refl;
+  steps =
+      then (then (then (then (then none e1 (refl, refl, refl)) e2 (refl, refl, refl)) e3 (refl, refl, refl)) e4 (refl, refl, refl)) e5 (refl, refl, refl);
+}
+
 up-to-d2 : Run startA (d2 ∷ a1 ∷ []) (after d2) storeD
 up-to-d2 = record { opened = refl; steps = then (then none a1 (refl, refl)) d2 (refl, refl, refl) }
 
@@ -63,6 +71,9 @@ record Computed : Type 0 where
   taken-c : gathered tookBy storyC ≡ ten
   accepted-c : gathered acceptedBy storyC ≡ ten
   empty-c : usedOf (after c4 .«tx_buf») ≡ 0
+  taken-e : gathered tookBy storyE ≡ replicate 12 7 ++ ten
+  accepted-e : gathered acceptedBy storyE ≡ replicate 12 7 ++ ten
+  empty-e : usedOf (after e5 .«tx_buf») ≡ 0
   killed-c : after c3 .state ≡ Killed
   refused-a : after a3 ≡ before a3
   half-off : after a5 .state ≡ PeerClosed true false
@@ -76,7 +87,7 @@ record Computed : Type 0 where
   outs-2 : outs draining ≡ 2
 
 computed : Computed
-unfolding when isDone whenDone isRingSize isThreshold isTimeout isClock isPacketLength isHeaderLength doorOf lateOf lowestOf recordAnswer clockAnswer copied peerAvailCredit peerNeedsCreditUpdate encoded decoded soundRecord soundOf heldFrom held runs pushDone takenBy overBy endsBy flushCount flushOver flushAnswer flushDone flushKept flushOf okSettings soundConn soundOver quiet creditOf withState killedOf seenOf absorbed settledOf drainedOf notifyDoor notifyAnswer notifyDone notifyKept notifyOf freshOf openAnswer peerInitOf sendTaken notifyTaken nextStep spokenOf receivedOf headerOf recvDoor readsOf recvRefusal recvDone recvKept recvOf heardOf movedOf updatedOf onShutdown onData ruleOf goesOf planOf killsOf sendDoorOf sendLate carried sendDoor sendAnswer sendDone sendKept sendOf accepted gathered outs
+unfolding when isDone whenDone isRingSize isThreshold isTimeout isClock isPacketLength isHeaderLength doorOf lateOf lowestOf recordAnswer clockAnswer copied peerAvailCredit peerNeedsCreditUpdate encoded decoded soundRecord soundOf heldFrom held runs pushDone takenBy overBy endsBy flushCount flushOver flushAnswer flushDone flushKept flushOf okSettings soundConn soundOver quiet creditOf withState killedOf seenOf absorbed settledOf drainedOf notifyDoor notifyAnswer notifyDone notifyKept notifyOf freshOf openAnswer peerInitOf localInitOf sendTaken notifyTaken nextStep spokenOf receivedOf headerOf recvDoor readsOf recvRefusal recvDone recvKept recvOf heardOf movedOf updatedOf onResponse onShutdown onData ruleOf goesOf planOf killsOf sendDoorOf sendLate carried sendDoor sendAnswer sendDone sendKept sendOf accepted gathered outs
 computed = record {
   taken-a = refl;
   accepted-a = refl;
@@ -87,6 +98,9 @@ computed = record {
   taken-c = refl;
   accepted-c = refl;
   empty-c = refl;
+  taken-e = refl;
+  accepted-e = refl;
+  empty-e = refl;
   killed-c = refl;
   refused-a = refl;
   half-off = refl;
@@ -115,6 +129,7 @@ stories-hold =
       shut-down = record { run = run-a; forwards = every-run-forwards _ _ _ _ run-a; taken = v .taken-a; accepted = v .accepted-a; empty = v .empty-a };
       other-cut = record { run = run-b; forwards = every-run-forwards _ _ _ _ run-b; taken = v .taken-b; accepted = v .accepted-b; empty = v .empty-b };
       killed = record { run = run-c; forwards = every-run-forwards _ _ _ _ run-c; taken = v .taken-c; accepted = v .accepted-c; empty = v .empty-c };
+      both-pieces = record { run = run-e; forwards = every-run-forwards _ _ _ _ run-e; taken = v .taken-e; accepted = v .accepted-e; empty = v .empty-e };
       is-killed = v .killed-c;
       refused = v .refused-a;
       alike = cuts-do-not-matter _ _ _ _ _ _ _ _ run-a run-b (v .accepted-a ∙ sym (v .accepted-b)) (v .empty-a) (v .empty-b);

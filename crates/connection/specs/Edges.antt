@@ -19,7 +19,7 @@ use Rattle.connection.specs.Open.{none, freshOf, peerInitOf, Opening}
 use Rattle.connection.specs.Look.{FlagLeft, hasExpiredOf}
 use Rattle.connection.specs.Notify.{NotifyLeft, notifyOf}
 use Rattle.connection.specs.Receive.{RecvLeft, recvOf}
-use Rattle.connection.specs.Send.{SendLeft, movedOf, updatedOf, sendOf}
+use Rattle.connection.specs.Send.{SendLeft, sendOf}
 use Rattle.connection.specs.declared.record.Timer.{Timer}
 use Rattle.connection.specs.declared.record.Timer.the-variants.{Unset, At}
 use Rattle.connection.specs.declared.record.VsockConnection.{VsockConnection}
@@ -84,9 +84,9 @@ readingBCD =
     ∷ (held (afterD .conn .«tx_buf») (afterD .store) reads replicate 6 1)
     ∷ []
 
--- count minus told so much: whether an update is set
+-- data of so many bytes, all taken: count minus told is so much, and whether an update is set
 abbrev owes : ℕ → Bool
-owes n = updatedOf (movedOf (afterA .conn) (ring 0) n) .«pending_rx» .«credit_update»
+owes n = brings (afterA .conn) (replicate 16 0) n (replicate n 1) .conn .«pending_rx» .«credit_update»
 
 -- e: 12: none; 13: update; 17: wraps, none
 unfoldable pub readingE : List Reading

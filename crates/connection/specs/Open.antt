@@ -79,13 +79,25 @@ peerInitOf o = record {
       (freshOf o PeerInit (record { request = false; response = true; rst = false; rw = false; «credit_update» = false })) zeroConn;
 }
 
--- by the host: LocalInit, Request pending
+-- the guest's space is not known yet
+abbrev unheard : Opening → Opening
+unheard o = record {
+  size = o .size;
+  settings = o .settings;
+  «local_cid» = o .«local_cid»;
+  «peer_cid» = o .«peer_cid»;
+  «local_port» = o .«local_port»;
+  «peer_port» = o .«peer_port»;
+  alloc = 0;
+}
+
+-- by the host: LocalInit, Request pending, space 0
 unfoldable pub localInitOf : Opening → ConnLeft
 localInitOf o = record {
   answer = told (openAnswer (o .size) (o .settings));
   conn =
       whenDone (openAnswer (o .size) (o .settings))
-      (freshOf o LocalInit (record { request = true; response = false; rst = false; rw = false; «credit_update» = false })) zeroConn;
+      (freshOf (unheard o) LocalInit (record { request = true; response = false; rst = false; rw = false; «credit_update» = false })) zeroConn;
 }
 
 abbrev pub PeerInitSays : Opening → ConnLeft → Type 0

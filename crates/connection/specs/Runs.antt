@@ -17,7 +17,7 @@ use Rattle.connection.specs.Receive.{RecvIn, RecvLeft, RecvSays}
 use Rattle.connection.specs.Send.{SendIn, SendLeft, SendSays, accepted}
 use Rattle.connection.specs.Notify.{NotifyIn, NotifyLeft, NotifySays, due}
 use Rattle.connection.specs.Moves.{sendTaken, notifyTaken}
-use Rattle.connection.specs.Offer.{Given, AskedLeft, SendDoorSays, SendWritesSays, SendOfferedSays, RecvDoorSays, RecvAskedSays, NotifyDoorSays, NotifyOfferedSays, NotifyNextSays}
+use Rattle.connection.specs.Offer.{Given, AskedLeft, SendDoorSays, SendWritesSays, SendOfferedSays, RecvDoorSays, RecvAskedSays, NotifyDoorSays, NotifyOfferedSays, NotifyNextSays, RawDoorSays, RawOfferedSays}
 use Rattle.connection.specs.declared.record.VsockConnection.{VsockConnection}
 use Rattle.connection.specs.declared.state.ConnState.{ConnState}
 use Rattle.connection.specs.declared.state.ConnState.the-variants.{PeerClosed, LocalClosed, Killed}
@@ -44,6 +44,8 @@ pub data Looking : Type 0 where
   notify-door : Given → Answer → Looking
   notify-offered : Given → Bool → List ℕ → Looking
   notify-offered-next : Given → Bool → List ℕ → Looking
+  raw-door : Given → Answer → Looking
+  raw-offered : Given → List ℕ → Looking
 
 -- the record that it looked at
 abbrev pub lookedAt : Looking → VsockConnection
@@ -65,6 +67,8 @@ lookedAt (recv-asked g o) = g .conn
 lookedAt (notify-door g o) = g .conn
 lookedAt (notify-offered g w o) = g .conn
 lookedAt (notify-offered-next g w o) = g .conn
+lookedAt (raw-door g o) = g .conn
+lookedAt (raw-offered g o) = g .conn
 
 -- and what its contract says
 abbrev pub LookSays : Looking → Type 0
@@ -86,6 +90,8 @@ LookSays (recv-asked g o) = RecvAskedSays g o
 LookSays (notify-door g o) = NotifyDoorSays g o
 LookSays (notify-offered g w o) = NotifyOfferedSays (g, w) o
 LookSays (notify-offered-next g w o) = NotifyNextSays (g, w) o
+LookSays (raw-door g o) = RawDoorSays g o
+LookSays (raw-offered g o) = RawOfferedSays g o
 
 -- a call, with what it was given and what it left
 pub data Event : Type 0 where

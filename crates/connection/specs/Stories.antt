@@ -2,16 +2,16 @@
 use Prim.Native.Nat.{ℕ}
 use mathlib.Core.Path.{_≡_}
 use mathlib.Core.Bool.{true, false}
-use mathlib.Core.List.{List, [], _∷_}
+use mathlib.Core.List.{List, [], _∷_, _++_}
 use lib.ListN.{take, drop, replicate}
 use Rattle.defs.specs.declared.stream.StreamAnswer.{StreamAnswer}
 use Rattle.defs.specs.declared.stream.StreamAnswer.the-variants.{Count, WouldBlock}
 use Rattle.defs.specs.declared.stream.ReadAnswer.the-variants.{WouldBlock as ReadWouldBlock}
-use Rattle.packet.specs.Uapi.{opShutdown, opRw, typeStream}
+use Rattle.packet.specs.Uapi.{opResponse, opShutdown, opRw, typeStream}
 use Rattle.packet.specs.Header.{encoded}
 use Rattle.packet.specs.Edges.{bytesA}
 use Rattle.txbuf.specs.Record.{usedOf}
-use Rattle.connection.specs.Open.{Opening, peerInitOf}
+use Rattle.connection.specs.Open.{Opening, peerInitOf, localInitOf}
 use Rattle.connection.specs.Receive.{RecvIn, recvOf}
 use Rattle.connection.specs.Send.{SendIn, sendOf}
 use Rattle.connection.specs.Notify.{NotifyIn, notifyOf}
@@ -60,11 +60,14 @@ comes c store hdr bytes answer =
     } in
     sends i (sendOf i)
 
--- an out-event, of a stream that answers so
-abbrev out : VsockConnection → List ℕ → StreamAnswer → Event
-out c store answer =
-    let i : NotifyIn = record { conn = c; readable = false; writable = true; store = store; answers = record { first = answer; second = WouldBlock }; out = replicate 16 99 } in
+-- an out-event, of a stream that answers so, and so to a second piece
+abbrev out2 : VsockConnection → List ℕ → StreamAnswer → StreamAnswer → Event
+out2 c store answer second =
+    let i : NotifyIn = record { conn = c; readable = false; writable = true; store = store; answers = record { first = answer; second = second }; out = replicate 16 99 } in
     notifies i (notifyOf i)
+
+abbrev out : VsockConnection → List ℕ → StreamAnswer → Event
+out c store answer = out2 c store answer WouldBlock
 
 abbrev pub ten : List ℕ
 ten = 10 ∷ 11 ∷ 12 ∷ 13 ∷ 14 ∷ 15 ∷ 16 ∷ 17 ∷ 18 ∷ 19 ∷ []
@@ -165,6 +168,37 @@ d5 = out (after d4) storeD (Count 1)
 abbrev pub draining : List Event
 draining = d5 ∷ d4 ∷ d3 ∷ []
 
+-- ---- ten bytes across the storage's end, opened by the host: twelve are held and taken, then ten are held as four and six, and taken in both pieces
+
+abbrev pub startE : Start
+startE =
+    let given : Opening = begins 16 .given in
+    record { guest = false; given = given; left = localInitOf given; store = replicate 16 0 }
+
+abbrev pub e1 : Event
+e1 = comes (startE .left .conn) (startE .store) (packet opResponse 0 0) [] (Count 9)
+
+abbrev pub e2 : Event
+e2 = comes (after e1) (storeAfter (startE .store) e1) (packet opRw 0 12) (replicate 12 7) WouldBlock
+
+abbrev pub storeE : List ℕ
+storeE = storeAfter (storeAfter (startE .store) e1) e2
+
+abbrev pub e3 : Event
+e3 = out (after e2) storeE (Count 12)
+
+abbrev pub e4 : Event
+e4 = comes (after e3) storeE (packet opRw 0 10) ten WouldBlock
+
+abbrev pub endStoreE : List ℕ
+endStoreE = storeAfter storeE e4
+
+abbrev pub e5 : Event
+e5 = out2 (after e4) endStoreE (Count 4) (Count 6)
+
+abbrev pub storyE : List Event
+storyE = e5 ∷ e4 ∷ e3 ∷ e2 ∷ e1 ∷ []
+
 -- ---- what the theorems say of them, and what they come to
 
 pub record Ends (s : Start) (t : List Event) (c : VsockConnection) (store bytes : List ℕ) : Type 0 where
@@ -178,6 +212,7 @@ pub record StoriesHold : Type 0 where
   pub shut-down : Ends startA storyA (after a7) endStoreA ten
   pub other-cut : Ends startB storyB (after b4) endStoreB ten
   pub killed : Ends startA storyC (after c4) endStoreC ten
+  pub both-pieces : Ends startE storyE (after e5) endStoreE (replicate 12 7 ++ ten)
   pub is-killed : after c3 .state ≡ Killed
   pub refused : after a3 ≡ before a3
   pub alike : Alike storyA storyB (after a7) (after b4)

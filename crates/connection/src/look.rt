@@ -111,7 +111,8 @@ impl VsockConnection {
         State { answer, state }
     }
 
-    // Out where the ring holds bytes; in where data may go to the guest and it has room.
+    // Out where the ring holds bytes; in where the guest has room, unless the state forbids data to
+    // it for good.
     pub fn get_polled_evset(self) -> EvSet
         ensures { λ r. ⌜ EvSetSays self (record { answer = told (r .answer); readable = r .readable; writable = r .writable }) ⌝ }
     {

@@ -244,8 +244,8 @@ fn on_response(conn: VsockConnection) -> VsockConnection
     conn
 }
 
-// Flags only grow. With both set the connection is reset as soon as the ring is empty; the guest's
-// first word of it starts the time that this may take.
+// Flags only grow. With both set the connection is reset as soon as the ring is empty; only where
+// the guest sets both at once, and bytes are held, is there a time that this may take.
 fn on_shutdown(conn: VsockConnection, flags: u32, now_ms: u64) -> VsockConnection
     requires { ⌜ Lingers conn «now_ms» ⌝ }
     ensures { λ r. ⌜ r ≡ onShutdown conn flags «now_ms» ⌝ }
@@ -279,7 +279,7 @@ fn choose_timer(test: bool, timer: Timer, other: Timer) -> Timer
     if test { timer } else { other }
 }
 
-// The guest asks for our numbers, in a state that takes its data.
+// The guest asks for our numbers, in a state that answers it.
 fn on_credit_request(conn: VsockConnection) -> VsockConnection
     ensures { λ r. ⌜ r ≡ onCreditRequest conn ⌝ }
 {

@@ -342,7 +342,8 @@ fn sent_clocks() {
     send(established(), s, StreamAnswer::Count(8));
 }
 
-// Neither a header nor a clock is any good: the lower number. The third is a record too.
+// Header lengths 0, 43 and 45; beside the second a bad clock, beside the third a bad storage too: the
+// lowest number.
 fn sent_headers() {
     let mut s = data();
     s.hdr = 0;
@@ -464,7 +465,7 @@ fn turn(conn: VsockConnection, t: Speaking, answer: ReadAnswer) -> VsockConnecti
     named(b" supplied", t.supplied as u64);
     read_by(answer);
     let mut hdr = [0u8; 45];
-    let mut buf = eights();
+    let mut buf = dots();
     let next = spoken(conn, t, answer, &mut hdr, &mut buf);
     header(front(&hdr, VSOCK_PKT_HDR_SIZE));
     bytes(b" buffer ", front(&buf, SIZE));
@@ -500,7 +501,7 @@ fn spoken(
     next
 }
 
-fn eights() -> [u8; 65537] {
+fn dots() -> [u8; 65537] {
     [0x2eu8; 65537]
 }
 

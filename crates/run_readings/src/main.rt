@@ -1,4 +1,5 @@
 // Runs 01's readings through the code, a line each: the letter, then what came out.
+use conn_map::ConnMapKey;
 use connection::ConnState;
 use connection::Settings;
 use connection::Timer;
@@ -7,10 +8,12 @@ use defs::ReadAnswer;
 use defs::StreamAnswer;
 use defs::StreamAnswers;
 use defs::limits::VSOCK_PKT_HDR_SIZE;
+use muxer_killq::MuxerKillQ;
+use muxer_rxq::MuxerRx;
+use muxer_rxq::MuxerRxQ;
 use packet::Decoded;
 use packet::VsockPacketHdr;
 use packet::uapi;
-use txbuf::TxBuf;
 
 // The settings of every reading: R, T, and both timeouts.
 const SIZE: u32 = 16;
@@ -26,6 +29,8 @@ fn main() {
     reading_f();
     reading_g();
     reading_h();
+    reading_i();
+    reading_j();
     reading_k();
     reading_l();
 }
@@ -90,11 +95,11 @@ fn sent(
         first: StreamAnswer::Count(taken),
         second: StreamAnswer::WouldBlock,
     };
-    let mut out = [0u8; SIZE as usize];
+    let mut out = [0u8; 17];
     let after = conn.send_pkt(
         &bytes,
         true,
-        b"0123456789abcdef",
+        b"0123456789abcdefg",
         1000,
         storage,
         answers,
@@ -189,7 +194,7 @@ fn print_data(letter: &[u8], conn: VsockConnection) {
     }
 }
 
-// Whether a credit update is due at a count minus told of 12, 13 and 17.
+// Whether a credit update is due at a count minus told of 12, 13 and 17: so many bytes, all taken.
 fn reading_e() {
     io::write_all(1, b"e");
     update_due(12);
@@ -198,43 +203,50 @@ fn reading_e() {
     io::write_all(1, b"\n");
 }
 
-fn update_due(fwd_cnt: u32) {
+fn update_due(n: u32) {
+    let mut storage = [0u8; SIZE as usize];
+    let op = uapi::VSOCK_OP_RW;
+    let after = sent(established(100), op, 0, n, n as usize, &mut storage);
+    let pending = after.pending_rx;
     io::write_all(1, b" ");
-    io::print_decimal(1, fwd_cnt as u64);
-    if defs::peer_needs_credit_update(SIZE, THRESHOLD, fwd_cnt, 0) {
+    io::print_decimal(1, after.fwd_cnt as u64);
+    if pending.credit_update {
         io::write_all(1, b": update;");
     } else {
         io::write_all(1, b": none;");
     }
 }
 
-// Head 20, tail 12, over a storage whose bytes tell their place: the first piece, then 4 taken and
-// a failure.
+// Head 20, tail 12, over a storage whose bytes tell their place: both pieces, then an out-event that
+// takes 4 and fails.
 fn reading_f() {
     let storage = *b"\x00\x01\x02\x03\x04\x05\x06\x07\x08\x09\x0a\x0b\x0c\x0d\x0e\x0f";
-    let ring = TxBuf {
-        size: SIZE,
-        head: 20,
-        tail: 12,
-    };
+    let mut conn = established(100);
+    conn.tx_buf.head = 20;
+    conn.tx_buf.tail = 12;
+    print_piece(b"f pieces ", conn.notify_offered(true, &storage));
+    print_piece(b" and ", conn.notify_offered_next(true, &storage));
     let answers = StreamAnswers {
         first: StreamAnswer::Count(4),
         second: StreamAnswer::Failed,
     };
-    let mut digits = [0u8; 8];
-    text::hex(ring.first_piece(&storage), &mut digits);
-    io::write_all(1, b"f first piece ");
-    io::write_all(1, &digits);
     let mut out = [0u8; SIZE as usize];
-    let flushed = ring.flush_to(&storage, answers, &mut out);
-    let answer = flushed.answer;
-    io::write_all(1, b", answer ");
-    io::print_decimal(1, defs::number_of(answer) as u64);
+    let after = conn.notify(false, true, &storage, answers, &mut out);
+    let next = after.conn;
     io::write_all(1, b", count ");
-    io::print_decimal(1, flushed.count as u64);
+    io::print_decimal(1, next.fwd_cnt as u64);
     io::write_all(1, b", tail ");
-    io::print_decimal(1, flushed.ring.tail as u64);
+    io::print_decimal(1, next.tx_buf.tail as u64);
+    io::write_all(1, b", ");
+    print_state(next);
     io::write_all(1, b"\n");
+}
+
+fn print_piece(name: &[u8], piece: &[u8]) {
+    let mut digits = [0u8; 8];
+    text::hex(piece, &mut digits);
+    io::write_all(1, name);
+    io::write_all(1, &digits);
 }
 
 // Credit 1, a buffer of 0 bytes, a read of 0 bytes; then credit 0 and no buffer.
@@ -269,6 +281,109 @@ fn reading_h() {
     io::write_all(1, b"h ");
     io::print_decimal(1, defs::peer_avail_credit(10, 14, 2) as u64);
     io::write_all(1, b"\n");
+}
+
+// A kill time of 500: expired, by a connection's timer, and popped, by the kill queue.
+fn reading_i() {
+    io::write_all(1, b"i expired at 499");
+    print_yes(timed(500).has_expired(499).yes);
+    io::write_all(1, b", at 500");
+    print_yes(timed(500).has_expired(500).yes);
+    let made = MuxerKillQ::new(2);
+    let queue = made.queue;
+    let pushed = queue.push(
+        ConnMapKey {
+            local_port: 1024,
+            peer_port: 5000,
+        },
+        500,
+    );
+    let waiting = pushed.queue;
+    io::write_all(1, b"; popped at 500");
+    print_yes(waiting.pop(500).found);
+    io::write_all(1, b", at 501");
+    print_yes(waiting.pop(501).found);
+    io::write_all(1, b"\n");
+}
+
+fn print_yes(is: bool) {
+    if is {
+        io::write_all(1, b" yes");
+    } else {
+        io::write_all(1, b" no");
+    }
+}
+
+// An established connection with a timer.
+fn timed(time: u64) -> VsockConnection {
+    let c = established(100);
+    let settings = c.settings;
+    let tx_buf = c.tx_buf;
+    let pending_rx = c.pending_rx;
+    VsockConnection {
+        settings,
+        state: ConnState::Established,
+        local_cid: c.local_cid,
+        peer_cid: c.peer_cid,
+        local_port: c.local_port,
+        peer_port: c.peer_port,
+        tx_buf,
+        fwd_cnt: c.fwd_cnt,
+        peer_buf_alloc: c.peer_buf_alloc,
+        peer_fwd_cnt: c.peer_fwd_cnt,
+        rx_cnt: c.rx_cnt,
+        last_fwd_cnt_to_peer: c.last_fwd_cnt_to_peer,
+        pending_rx,
+        expiry: Timer::At(time),
+    }
+}
+
+// Q = 2, [C1 C2]: RSTs r and s, a third; then a pop and one more.
+fn reading_j() {
+    io::write_all(1, b"j");
+    let made = MuxerRxQ::new(2);
+    let queue = made.queue;
+    let a = queued(queue, false, 1);
+    let b = queued(a, false, 2);
+    let c = queued(b, true, 8);
+    let d = queued(c, true, 9);
+    let e = queued(d, true, 10);
+    let popped = e.pop();
+    let f = popped.queue;
+    io::write_all(1, b" pop;");
+    let g = queued(f, true, 10);
+    io::write_all(1, b" full");
+    print_yes(g.is_full().holds);
+    io::write_all(1, b"\n");
+}
+
+// A push, its answer, and both places.
+fn queued(queue: MuxerRxQ, rst: bool, local_port: u32) -> MuxerRxQ {
+    let pushed = queue.push(MuxerRx {
+        rst,
+        local_port,
+        peer_port: 1,
+    });
+    let answer = pushed.answer;
+    let next = pushed.queue;
+    let first = next.q[0];
+    let second = next.q[1];
+    io::write_all(1, b" ");
+    io::print_decimal(1, defs::number_of(answer) as u64);
+    io::write_all(1, b" [");
+    print_item(first);
+    print_item(second);
+    io::write_all(1, b" ];");
+    next
+}
+
+fn print_item(item: MuxerRx) {
+    if item.rst {
+        io::write_all(1, b" r");
+    } else {
+        io::write_all(1, b" C");
+    }
+    io::print_decimal(1, item.local_port as u64);
 }
 
 // SHUTDOWN 3 at 1,000 with one byte held: its timer; SHUTDOWN 1, then 2: its timer.
