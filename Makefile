@@ -1,10 +1,14 @@
 # Two commands: `make run` runs the main job, `make test` proves, tests and compares everything.
-.PHONY: run test leaf vectors compare compare-if-at-hand beyond slips coverage
+.PHONY: run readings test leaf vectors compare compare-if-at-hand beyond slips coverage
 
-# 01's readings, run through the proved code.
+# Pull-test records, carried through the proved connection.
 run:
+	@scripts/run
+
+# Document 01's readings, run through the proved code.
+readings:
 	@mkdir -p target
-	@rt check run_readings >target/run.log 2>&1 || { cat target/run.log; exit 1; }
+	@rt check run_readings >target/readings.log 2>&1 || { cat target/readings.log; exit 1; }
 	@target/bin/run_readings
 
 # The last line is rt ci's own: 'N passed, 0 failed'.
