@@ -26,7 +26,7 @@ use Rattle.txbuf.specs.Push.{pushDone}
 use Rattle.txbuf.specs.Flush.{FlushIn, endsBy, flushCount, flushOver, flushAnswer}
 use Rattle.txbuf.specs.declared.record.TxBuf.{TxBuf}
 use Rattle.txbuf.proofs.RecordLaws.{held-length}
-use Rattle.txbuf.proofs.FlushLaws.{flush-progresses, flushed-told}
+use Rattle.txbuf.proofs.FlushLaws.{lowest-end, flush-progresses, flushed-told}
 use Rattle.connection.specs.Record.{quiet}
 use Rattle.connection.specs.Moves.{Account, account, Numbers, Moved}
 use Rattle.connection.specs.Send.{failed, carried, SendIn, SendLeft, pktOf, sendPlan, sendAnswer, sendKills, sendCarried, sendDone, sendKept, sendOf}
@@ -98,14 +98,6 @@ not-ten false a n = refl
 not-ten true true n = refl
 not-ten true false true = refl
 not-ten true false false = refl
-
-lowest-end : (p : Answer) → lowestOf p Done ≡ p
-unfolding lowestOf
-lowest-end p =
-    ⊎-elim
-    (λ (t : isDone p ≡ true). when-done p Done p (is-done p t) ∙ sym (is-done p t))
-    (λ (t : isDone p ≡ false). when-not-done p Done p t)
-    (true-or-false (isDone p))
 
 ends-done : (n k : ℕ) (a : StreamAnswer) → a ≡ Count (suc k) → endsBy n a ≡ Done
 unfolding endsBy

@@ -212,7 +212,7 @@ late-room : lateOf false true ≡ NoRoom
 unfolding lateOf when
 late-room = refl
 
-lowest-end : (p : Answer) → lowestOf p Done ≡ p
+pub lowest-end : (p : Answer) → lowestOf p Done ≡ p
 lowest-end p =
     ⊎-elim
     (λ (t : isDone p ≡ true). let d = is-done p t in rw d (lowest-done Done))

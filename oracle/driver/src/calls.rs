@@ -278,6 +278,19 @@ fn opened(call: &Frame, asked: &Conn) -> Frame {
     conn_left(call, 0, &conn_probe::read(&rust, asked, &mut vec![]))
 }
 
+// What a call that may write leaves of record, storage and outgoing bytes; or 5 or 6, and nothing changed.
+fn wrote(call: &Frame, was: &Conn, rust: &VsockConnection, seen: &Seen) -> Frame {
+    let refusal = late(seen, &call.runs[OUT]);
+    if refusal != 0 {
+        return conn_left(call, refusal, was);
+    }
+    let mut storage = call.runs[STORAGE].clone();
+    let mut reply = conn_left(call, 0, &conn_probe::read(rust, was, &mut storage));
+    reply.runs[STORAGE] = storage;
+    take(&mut reply, seen);
+    reply
+}
+
 fn sent(call: &Frame, was: &Conn) -> Frame {
     let mut rust = conn_probe::make(was, &call.runs[STORAGE]);
     let mut hdr = hdr_probe::HdrBytes::new(&call.runs[HDR]);
@@ -287,16 +300,9 @@ fn sent(call: &Frame, was: &Conn) -> Frame {
         rust.send_pkt(&hdr.packet(lent))
     });
     result.expect("send_pkt always gives Ok");
-    let refusal = late(&seen, &call.runs[OUT]);
-    if refusal != 0 {
-        return conn_left(call, refusal, was);
-    }
-    let mut storage = call.runs[STORAGE].clone();
-    let mut reply = conn_left(call, 0, &conn_probe::read(&rust, was, &mut storage));
-    reply.runs[STORAGE] = storage;
+    let mut reply = wrote(call, was, &rust, &seen);
     reply.runs[HDR] = hdr.bytes();
     reply.runs[BUF] = buf;
-    take(&mut reply, &seen);
     reply
 }
 
@@ -335,15 +341,7 @@ fn notified(call: &Frame, was: &Conn) -> Frame {
         events.insert(epoll::Events::EPOLLOUT);
     }
     let (_, seen) = stream::during(call.answers(), Answer::Failed, &[], || rust.notify(events));
-    let refusal = late(&seen, &call.runs[OUT]);
-    if refusal != 0 {
-        return conn_left(call, refusal, was);
-    }
-    let mut storage = call.runs[STORAGE].clone();
-    let mut reply = conn_left(call, 0, &conn_probe::read(&rust, was, &mut storage));
-    reply.runs[STORAGE] = storage;
-    take(&mut reply, &seen);
-    reply
+    wrote(call, was, &rust, &seen)
 }
 
 fn raw_sent(call: &Frame, was: &Conn) -> Frame {
