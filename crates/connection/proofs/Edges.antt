@@ -10,6 +10,7 @@ use Rattle.packet.specs.Header.{encoded, decoded}
 use Rattle.txbuf.specs.Record.{soundRecord, soundOf, heldFrom, held}
 use Rattle.txbuf.specs.Push.{runs, pushDone}
 use Rattle.txbuf.specs.Flush.{takenBy, overBy, endsBy, flushCount, flushOver, flushAnswer, flushDone, flushKept, flushOf}
+use Rattle.csm.specs.Turn.{turnStep, turnReads}
 use Rattle.connection.specs.Record.{okSettings, soundConn, soundOver, quiet, creditOf, withState, killedOf}
 use Rattle.connection.specs.Look.{hasExpiredOf}
 use Rattle.connection.specs.Notify.{seenOf, absorbed, settledOf, drainedOf, notifyDoor, notifyAnswer, notifyDone, notifyKept, notifyOf}
@@ -20,7 +21,7 @@ use Rattle.connection.specs.Edges.{readingA, readingBCD, readingE, readi
 use Rattle.connection.specs.Promises.{EdgesHold}
 
 pub edges-hold : EdgesHold
-unfolding when isDone whenDone isRingSize isThreshold isTimeout isClock isPacketLength isHeaderLength doorOf lateOf lowestOf copied peerAvailCredit peerNeedsCreditUpdate encoded decoded soundRecord soundOf heldFrom held recordAnswer runs pushDone okSettings soundConn soundOver quiet creditOf withState killedOf freshOf openAnswer peerInitOf nextStep spokenOf receivedOf headerOf recvDoor readsOf recvRefusal recvDone recvKept recvOf heardOf movedOf updatedOf onData ruleOf goesOf planOf killsOf sendDoorOf sendLate carried sendDoor takenBy overBy endsBy flushCount flushOver flushAnswer flushDone flushKept flushOf seenOf absorbed settledOf drainedOf notifyDoor notifyAnswer notifyDone notifyKept notifyOf clockAnswer hasExpiredOf sendAnswer sendDone sendKept sendOf readingA readingBCD readingE readingF readingG readingH readingI
+unfolding when isDone whenDone isRingSize isThreshold isTimeout isClock isPacketLength isHeaderLength doorOf lateOf lowestOf copied peerAvailCredit peerNeedsCreditUpdate encoded decoded soundRecord soundOf heldFrom held recordAnswer runs pushDone okSettings soundConn soundOver quiet creditOf withState killedOf freshOf openAnswer peerInitOf turnStep spokenOf receivedOf headerOf recvDoor turnReads recvRefusal recvDone recvKept recvOf heardOf movedOf updatedOf onData ruleOf goesOf planOf killsOf sendDoorOf sendLate carried sendDoor takenBy overBy endsBy flushCount flushOver flushAnswer flushDone flushKept flushOf seenOf absorbed settledOf drainedOf notifyDoor notifyAnswer notifyDone notifyKept notifyOf clockAnswer hasExpiredOf sendAnswer sendDone sendKept sendOf readingA readingBCD readingE readingF readingG readingH readingI
 edges-hold = record {
   a = (refl, (refl, tt));
   bcd = (refl, (refl, (refl, (refl, (refl, (refl, tt))))));

@@ -3,35 +3,33 @@
 use Prim.Native.Nat.{ℕ}
 use mathlib.Core.Path.{_≡_, refl, sym, ap, subst, _∙_}
 use mathlib.Core.Logic.{_⊎_, inl, inr, ⊎-elim}
-use mathlib.Core.Bool.{Bool, true, false, not, _&&_, _||_}
+use mathlib.Core.Bool.{Bool, true, false, _&&_, _||_}
 use mathlib.Core.List.{List}
 use lib.Dec.{eqb}
 use Rattle.defs.specs.Choice.{when}
 use Rattle.defs.specs.Answer.{isDone, whenDone}
-use Rattle.defs.specs.declared.stream.ReadAnswer.{ReadAnswer}
-use Rattle.defs.specs.declared.stream.ReadAnswer.the-variants.{Count, WouldBlock, Failed}
 use Rattle.defs.proofs.Basics.{never, both, true-or-false}
 use Rattle.defs.proofs.ChoiceLaws.{when-true, when-false}
 use Rattle.packet.specs.Uapi.{opResponse, opShutdown, opRw, opCreditRequest}
 use Rattle.packet.specs.declared.hdr.VsockPacketHdr.{VsockPacketHdr}
 use Rattle.txbuf.specs.declared.record.TxBuf.{TxBuf}
-use Rattle.connection.specs.State.{gives, isLocalInit, shutBy, bothOff}
+use Rattle.csm.specs.State.{isLocalInit, shutBy, bothOff}
+use Rattle.csm.specs.Row.{afterwards}
+use Rattle.csm.specs.declared.row.After.{After}
+use Rattle.csm.specs.declared.row.After.the-variants.{Same, Closes}
+use Rattle.csm.specs.declared.pending.PendingRxSet.{PendingRxSet}
+use Rattle.csm.specs.declared.state.ConnState.{ConnState}
+use Rattle.csm.specs.declared.state.ConnState.the-variants.{LocalInit, PeerInit, Established, LocalClosed, PeerClosed, Killed}
+use Rattle.csm.proofs.TurnLaws.{NotOpening, same-state, closes-state, reset-stays, response-alone-opens}
 use Rattle.connection.specs.Record.{quiet, creditOf, withState, killedOf}
 use Rattle.connection.specs.Open.{Opening, ConnLeft, freshOf, zeroConn, openAnswer, peerInitOf, localInitOf}
 use Rattle.connection.specs.Look.{lookAnswer, killOf}
-use Rattle.connection.specs.Receive.{readStep, isEnd, dataStep, updateStep, nextStep, rowOf, afterwards, spokenOf, receivedOf, RecvIn, refusalOf, saidBy, recvDone, recvKept, recvOf}
+use Rattle.connection.specs.Receive.{spokenOf, receivedOf, RecvIn, refusalOf, saidBy, recvDone, recvKept, recvOf}
 use Rattle.connection.specs.Send.{failed, recvOff, sendOff, heardOf, movedOf, updatedOf, onResponse, onShutdown, onCreditRequest, onData, ruleOf, SendIn, pktOf, sendPlan, sendAnswer, sendKills, sendCarried, sendDone, sendKept, sendOf}
 use Rattle.connection.specs.Notify.{seenOf, settledOf, drainedOf, NotifyIn, due, flushed, notifyAnswer, notifyDone, notifyKept, notifyOf}
 use Rattle.connection.specs.Runs.{Event, sends, receives, notifies, kills, looks, after, Made, Steps, none, then, Opens, Grown, grown, closed, dead, FlagsOnlyGrow}
-use Rattle.connection.specs.declared.receive.After.{After}
-use Rattle.connection.specs.declared.receive.After.the-variants.{Same, Closes}
-use Rattle.connection.specs.declared.receive.RxStep.{RxStep}
-use Rattle.connection.specs.declared.receive.RxStep.the-variants.{Rst, Response, Request}
-use Rattle.connection.specs.declared.record.PendingRxSet.{PendingRxSet}
 use Rattle.connection.specs.declared.record.VsockConnection.{VsockConnection}
 use Rattle.connection.specs.declared.send.SendPlan.{SendPlan}
-use Rattle.connection.specs.declared.state.ConnState.{ConnState}
-use Rattle.connection.specs.declared.state.ConnState.the-variants.{LocalInit, PeerInit, Established, LocalClosed, PeerClosed, Killed}
 
 -- ---- what may follow a state
 
@@ -154,31 +152,6 @@ by-kill : (c : VsockConnection) → Next c (killOf c .conn)
 unfolding killOf killedOf withState whenDone
 by-kill c = choose c _ _ (isDone (lookAnswer c)) (λ t. record { response = refl; state = dies }) (same c)
 
--- ---- turns to speak
-
--- only a RESPONSE opens
-data NotOpening : After → Type 0 where
-  same-state : NotOpening Same
-  closes-state : NotOpening Closes
-
-no-opening : (request w up blocked present u : Bool) (a : ReadAnswer)
-    → NotOpening (rowOf (when request Request (when w (dataStep up blocked present (readStep a (isEnd a) (updateStep u))) (updateStep u))) .after)
-unfolding when
-no-opening true w up blocked present u a = same-state
-no-opening false false up blocked present true a = same-state
-no-opening false false up blocked present false a = same-state
-no-opening false true false blocked present u a = same-state
-no-opening false true true true present u a = same-state
-no-opening false true true false false u a = same-state
-no-opening false true true false true u (Count n) = by-count (eqb n 0)
-  where
-    by-count : (end : Bool) → NotOpening (rowOf (readStep (Count n) end (updateStep u)) .after)
-    by-count true = closes-state
-    by-count false = same-state
-no-opening false true true false true true WouldBlock = same-state
-no-opening false true true false true false WouldBlock = same-state
-no-opening false true true false true u Failed = same-state
-
 -- ---- what a run keeps
 
 abbrev Fit : VsockConnection → Type 0
@@ -232,14 +205,12 @@ by-turn c d x rst s p first other = record {
 }
 
 spoke : (i : RecvIn) → Turned (i .conn) (recvDone i .conn)
-unfolding recvDone receivedOf spokenOf nextStep
+unfolding recvDone receivedOf spokenOf
 spoke i =
-    let p = i .conn .«pending_rx» in
-    by-turn (i .conn) (recvDone i .conn) (saidBy i .after) (p .rst) refl refl
-    (λ t. ap (λ (s : RxStep). rowOf s .after) (when-true Rst _ _ t))
-    (λ t u.
-    subst (λ (s : RxStep). NotOpening (rowOf s .after)) (sym (when-false Rst _ _ t ∙ when-false Response _ _ u))
-    (no-opening (p .request) (p .rw) (gives (i .conn .state)) (eqb (creditOf (i .conn)) 0) (i .present) (p .«credit_update») (i .answer)))
+    let c = i .conn in
+    by-turn c (recvDone i .conn) (saidBy i .after) (c .«pending_rx» .rst) refl refl
+    (reset-stays (c .«pending_rx») (c .state) (eqb (creditOf c) 0) (i .present) (i .answer))
+    (response-alone-opens (c .«pending_rx») (c .state) (eqb (creditOf c) 0) (i .present) (i .answer))
 
 by-receive : (i : RecvIn) → Turned (i .conn) (recvOf i .conn)
 unfolding recvOf recvKept whenDone

@@ -25,20 +25,20 @@ use Rattle.txbuf.proofs.RecordLaws.{held-length}
 use Rattle.txbuf.proofs.PushLaws.{push-is-done, push-appends}
 use Rattle.txbuf.proofs.FlushLaws.{count-small, flush-takes-oldest, flush-wide}
 use Rattle.txbuf.specs.declared.record.TxBuf.{TxBuf}
-use Rattle.connection.specs.State.{takes, isLocalInit, bothOff}
+use Rattle.csm.specs.State.{takes, isLocalInit, bothOff}
+use Rattle.csm.specs.declared.row.Row.{Row}
+use Rattle.csm.specs.declared.timer.Timer.{Timer}
+use Rattle.csm.specs.declared.pending.PendingRxSet.{PendingRxSet}
+use Rattle.csm.specs.declared.state.ConnState.{ConnState}
 use Rattle.connection.specs.Record.{quiet, withState, killedOf}
 use Rattle.connection.specs.Receive.{spokenOf, receivedOf, RecvLeft, refusalOf, recvDone, recvKept, recvOf}
 use Rattle.connection.specs.Open.{ConnLeft}
 use Rattle.connection.specs.Look.{lookAnswer, killOf}
-use Rattle.connection.specs.declared.receive.Row.{Row}
 use Rattle.connection.specs.Send.{heardOf, movedOf, updatedOf, onResponse, onShutdown, onCreditRequest, onData, ruleOf, goesOf, planOf, carried, SendIn, SendLeft, pktOf, sendPlan, sendAnswer, payload, sendKills, sendCarried, sendDone, sendKept, sendOf, accepted}
 use Rattle.connection.specs.Notify.{seenOf, settledOf, drainedOf, NotifyIn, NotifyLeft, due, flushIn, flushed, notifyAnswer, notifyDone, notifyKept, notifyOf}
 use Rattle.connection.specs.Moves.{Account, account, Numbers, sendTaken, notifyTaken, Moved}
 use Rattle.connection.specs.Promises.{SendMoves, NotifyMoves, ReceiveKeeps, KillKeeps}
 use Rattle.connection.specs.declared.record.VsockConnection.{VsockConnection}
-use Rattle.connection.specs.declared.record.Timer.{Timer}
-use Rattle.connection.specs.declared.record.PendingRxSet.{PendingRxSet}
-use Rattle.connection.specs.declared.state.ConnState.{ConnState}
 use Rattle.connection.specs.declared.send.SendPlan.{SendPlan}
 use Rattle.connection.proofs.SendLaws.{Passed, passed, carries}
 

@@ -19,11 +19,12 @@ use Rattle.defs.proofs.AnswerLaws.{NotDone, not-done, is-done, when-done, when-
 use Rattle.defs.proofs.LadderLaws.{lowest-kept, lowest-on, door-passed, record-answer}
 use Rattle.txbuf.specs.Flush.{FlushLeft, FlushSays, flushAnswer}
 use Rattle.txbuf.proofs.FlushLaws.{flush-answer, flush-kept, count-small}
-use Rattle.connection.specs.State.{bothOff}
-use Rattle.connection.specs.Record.{soundOver, quiet, withState, marked}
+use Rattle.csm.specs.State.{bothOff}
+use Rattle.csm.specs.Pending.{marked}
+use Rattle.csm.specs.declared.pending.PendingRxSet.{PendingRxSet}
+use Rattle.connection.specs.Record.{soundOver, quiet, withState}
 use Rattle.connection.specs.Send.{failed, updatedOf}
 use Rattle.connection.specs.Notify.{seenOf, absorbed, settledOf, drainedOf, notifyDoor, NotifyIn, NotifyLeft, due, flushIn, notifyAnswer, notifyDone, notifyKept, notifyOf}
-use Rattle.connection.specs.declared.record.PendingRxSet.{PendingRxSet}
 use Rattle.connection.specs.declared.record.VsockConnection.{VsockConnection}
 use Rattle.connection.proofs.RecordLaws.{sound-over-says}
 

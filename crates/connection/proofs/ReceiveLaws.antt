@@ -1,6 +1,6 @@
--- Laws of `recv_pkt`: what a passed refusal says, how much a step reads, and both ends of the call. Assumes nothing.
-use Prim.Native.Nat.{ℕ, _≤_, zero-le}
-use mathlib.Core.Path.{_≡_, refl, sym, ap, _∙_}
+-- Laws of `recv_pkt`: what a passed refusal says, and both ends of the call. Assumes nothing.
+use Prim.Native.Nat.{ℕ, _≤_}
+use mathlib.Core.Path.{_≡_, sym, ap, _∙_}
 use mathlib.Core.Logic.{⊎-elim}
 use mathlib.Core.Bool.{Bool, true, false, not, _&&_, _||_}
 use mathlib.Core.List.{List, _++_}
@@ -18,7 +18,6 @@ use Rattle.defs.specs.Copying.{copied}
 use Rattle.defs.specs.declared.answer.Answer.{Answer}
 use Rattle.defs.specs.declared.answer.Answer.the-variants.{Done}
 use Rattle.defs.specs.declared.stream.ReadAnswer.{ReadAnswer}
-use Rattle.defs.specs.declared.stream.ReadAnswer.the-variants.{Count, WouldBlock, Failed}
 use Rattle.defs.proofs.Basics.{neither, true-or-false}
 use Rattle.defs.proofs.AnswerLaws.{NotDone, not-done, when-done, when-not-done}
 use Rattle.defs.proofs.LadderLaws.{lowest-passed, door-passed, late-passed}
@@ -27,12 +26,12 @@ use Rattle.defs.proofs.CopyLaws.{copied-fits}
 use Rattle.packet.specs.Header.{EncodeLeft, EncodeSays, encoded}
 use Rattle.packet.specs.declared.hdr.VsockPacketHdr.{VsockPacketHdr}
 use Rattle.packet.proofs.HeaderLaws.{encode-done}
-use Rattle.connection.specs.State.{gives}
+use Rattle.csm.specs.declared.row.Row.{Row}
+use Rattle.csm.proofs.Promises.{says-what-was-read}
+use Rattle.csm.proofs.TurnLaws.{absent-reads-not}
 use Rattle.connection.specs.Record.{soundConn, creditOf}
-use Rattle.connection.specs.Receive.{isEnd, readStep, dataStep, updateStep, nextStep, rowOf, receivedOf, headerOf, Receivable, RecvIn, RecvLeft, recvDoor, readsOf, askedOf, recvRefusal, refusalOf, saidBy, recvDone, recvKept, recvOf}
+use Rattle.connection.specs.Receive.{receivedOf, headerOf, Receivable, RecvIn, RecvLeft, recvDoor, readsOf, askedOf, recvRefusal, refusalOf, saidBy, recvDone, recvKept, recvOf}
 use Rattle.connection.specs.declared.record.VsockConnection.{VsockConnection}
-use Rattle.connection.specs.declared.receive.RxStep.the-variants.{Rst, Response, Request, Data, Close, Update, Nothing}
-use Rattle.connection.specs.declared.receive.Row.{Row}
 use Rattle.connection.proofs.RecordLaws.{timeouts}
 
 -- the refusal, put together as the code does
@@ -47,41 +46,8 @@ pub refusal-is : (c : VsockConnection) (hdr : ℕ) (present : Bool) (buf clock :
 unfolding recvRefusal
 refusal-is c hdr present buf clock a read r d l t n m e1 e2 e3 e4 e5 e6 = rw (e1, e2, e3, e4, e5, e6)
 
--- ---- how much a step reads
-
-counts : (end : Bool) (n : ℕ) → rowOf (when end Close (Data n)) .count ≤ n
-unfolding when
-counts true n = zero-le
-counts false n = omega arith
-
-none : (u : Bool) → rowOf (when u Update Nothing) .count ≤ 0
-unfolding when
-none true = zero-le
-none false = zero-le
-
-by-read : (a : ReadAnswer) (u : Bool) → rowOf (readStep a (isEnd a) (updateStep u)) .count ≤ readCounted a
-by-read (Count n) u = counts (eqb n 0) n
-by-read WouldBlock u = none u
-by-read Failed u = zero-le
-
-by-step : (r s q w up blocked present u : Bool) (a : ReadAnswer)
-    → rowOf (when r Rst (when s Response (when q Request (when w (dataStep up blocked present (readStep a (isEnd a) (updateStep u))) (updateStep u))))) .count
-    ≤ when (not r && not s && not q && w && up && not blocked && present) (readCounted a) 0
-unfolding when
-by-step true s q w up blocked present u a = zero-le
-by-step false true q w up blocked present u a = zero-le
-by-step false false true w up blocked present u a = zero-le
-by-step false false false false up blocked present u a = none u
-by-step false false false true false blocked present u a = zero-le
-by-step false false false true true true present u a = zero-le
-by-step false false false true true false false u a = zero-le
-by-step false false false true true false true u a = by-read a u
-
 count-at-most : (i : RecvIn) → saidBy i .count ≤ when (readsOf (i .conn) (i .present)) (readCounted (i .answer)) 0
-unfolding nextStep readsOf
-count-at-most i =
-    let p = i .conn .«pending_rx» in
-    by-step (p .rst) (p .response) (p .request) (p .rw) (gives (i .conn .state)) (eqb (creditOf (i .conn)) 0) (i .present) (p .«credit_update») (i .answer)
+count-at-most i = says-what-was-read (i .conn .«pending_rx») (i .conn .state) (eqb (creditOf (i .conn)) 0) (i .present) (i .answer)
 
 -- ---- what a refusal that passed says
 
@@ -111,26 +77,15 @@ pub record Passed (i : RecvIn) : Type 0 where
   pub receivable : Receivable (i .conn) (saidBy i) (i .clock)
 
 small : (i : RecvIn) → i .present && not (isPacketLength (length (i .buf))) ≡ false → saidBy i .count ≤ length (i .buf) → saidBy i .count ≤ maxPacket
-unfolding readsOf when
+unfolding when
 small i e l =
     ⊎-elim
     (λ (t : i .present ≡ true). let m = packet-length (length (i .buf)) .0 (not-false _ (simp t at e)) in omega arith)
-    (λ (t : i .present ≡ false). absent i t)
+    (λ (t : i .present ≡ false).
+    let z : readsOf (i .conn) (i .present) ≡ false = absent-reads-not _ _ _ _ t in
+    let n : saidBy i .count ≤ 0 = rw z at (count-at-most i) in
+    omega arith)
     (true-or-false (i .present))
-  where
-    and-false : (b : Bool) → b && false ≡ false
-    and-false true = refl
-    and-false false = refl
-
-    absent : (i : RecvIn) → i .present ≡ false → saidBy i .count ≤ maxPacket
-    absent i t =
-        let c = i .conn in
-        let p = c .«pending_rx» in
-        let x : Bool = not (p .rst) && not (p .response) && not (p .request) && p .rw && gives (c .state) && not (eqb (creditOf c) 0) in
-        let z : x && i .present ≡ false = rw t (and-false x) in
-        let m : saidBy i .count ≤ when (x && i .present) (readCounted (i .answer)) 0 = count-at-most i in
-        let n : saidBy i .count ≤ 0 = rw z at m in
-        omega arith
 
 pub passed : (i : RecvIn) → refusalOf i ≡ Done → Passed i
 unfolding recvRefusal recvDoor

@@ -11,12 +11,12 @@ use Rattle.defs.specs.declared.answer.Answer.{Answer}
 use Rattle.defs.proofs.Basics.{true-or-false}
 use Rattle.defs.proofs.ChoiceLaws.{when-true, when-false}
 use Rattle.txbuf.specs.Record.{usedOf, heldFrom, held}
+use Rattle.csm.specs.declared.pending.PendingRxSet.{PendingRxSet}
+use Rattle.csm.specs.declared.state.ConnState.{ConnState}
 use Rattle.connection.specs.Open.{Opening, ConnLeft, freshOf, zeroConn, openAnswer, peerInitOf, localInitOf}
 use Rattle.connection.specs.Moves.{Numbers, Moved}
 use Rattle.connection.specs.Runs.{Event, sends, receives, notifies, kills, looks, after, storeAfter, Made, Steps, none, then, Start, Opens, Run, tookBy, acceptedBy, gathered, Forwards, EveryRunForwards, CutsDoNotMatter}
 use Rattle.connection.specs.declared.record.VsockConnection.{VsockConnection}
-use Rattle.connection.specs.declared.record.PendingRxSet.{PendingRxSet}
-use Rattle.connection.specs.declared.state.ConnState.{ConnState}
 use Rattle.connection.proofs.MovesLaws.{stays, send-moves, notify-moves, receive-keeps, kill-keeps}
 
 -- what a call moves, whichever it is

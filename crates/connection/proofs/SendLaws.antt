@@ -28,7 +28,7 @@ use Rattle.txbuf.specs.Push.{PushIn, PushLeft, PushSays, pushAnswer, pushAnswer
 use Rattle.txbuf.specs.declared.record.TxBuf.{TxBuf}
 use Rattle.txbuf.proofs.RecordLaws.{Sound}
 use Rattle.txbuf.proofs.PushLaws.{is-ready, push-is-done}
-use Rattle.connection.specs.State.{takes}
+use Rattle.csm.specs.State.{takes}
 use Rattle.connection.specs.Record.{soundOver}
 use Rattle.connection.specs.Send.{goesOf, planOf, killsOf, sendDoorOf, sendLate, sendDoor, sendDoorIn, Killable, Lingers, Carries, carried, SendIn, SendLeft, pktOf, sendPlan, sendAnswer, payload, sendKills, sendCarried, heardOf, ruleOf, sendDone, sendKept, sendOf}
 use Rattle.connection.specs.declared.record.VsockConnection.{VsockConnection}

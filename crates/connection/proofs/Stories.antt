@@ -15,6 +15,8 @@ use Rattle.packet.specs.Edges.{bytesA}
 use Rattle.txbuf.specs.Record.{usedOf, soundRecord, soundOf, heldFrom, held}
 use Rattle.txbuf.specs.Push.{runs, pushDone}
 use Rattle.txbuf.specs.Flush.{takenBy, overBy, endsBy, flushCount, flushOver, flushAnswer, flushDone, flushKept, flushOf}
+use Rattle.csm.specs.declared.state.ConnState.the-variants.{PeerClosed, Killed}
+use Rattle.csm.specs.Turn.{turnStep, turnReads}
 use Rattle.connection.specs.Record.{okSettings, soundConn, soundOver, quiet, creditOf, withState, killedOf}
 use Rattle.connection.specs.Notify.{seenOf, absorbed, settledOf, drainedOf, notifyDoor, notifyAnswer, notifyDone, notifyKept, notifyOf}
 use Rattle.connection.specs.Open.{freshOf, openAnswer, peerInitOf, localInitOf}
@@ -23,7 +25,6 @@ use Rattle.connection.specs.Receive.{nextStep, spokenOf, receivedOf, hea
 use Rattle.connection.specs.Send.{heardOf, movedOf, updatedOf, onResponse, onShutdown, onData, ruleOf, goesOf, planOf, killsOf, sendDoorOf, sendLate, carried, sendDoor, sendAnswer, sendDone, sendKept, sendOf, accepted}
 use Rattle.connection.specs.Runs.{before, after, storeAfter, Steps, none, then, Run, tookBy, acceptedBy, deliveredBy, gathered, outs, Pushless}
 use Rattle.connection.specs.Stories.{startA, a1, a2, a3, a4, a5, a6, a7, storeA, storyA, upToA5, endStoreA, startB, b1, b2, b3, b4, storyB, endStoreB, c3, c4, storyC, endStoreC, d2, storeD, d3, d4, d5, draining, startE, e1, e2, e3, e4, e5, storyE, endStoreE, ten, StoriesHold}
-use Rattle.connection.specs.declared.state.ConnState.the-variants.{PeerClosed, Killed}
 use Rattle.connection.proofs.RunLaws.{every-run-forwards, cuts-do-not-matter}
 use Rattle.connection.proofs.FlagLaws.{flags-only-grow}
 use Rattle.connection.proofs.DrainLaws.{drains}
@@ -87,7 +88,7 @@ record Computed : Type 0 where
   outs-2 : outs draining ≡ 2
 
 computed : Computed
-unfolding when isDone whenDone isRingSize isThreshold isTimeout isClock isPacketLength isHeaderLength doorOf lateOf lowestOf recordAnswer clockAnswer copied peerAvailCredit peerNeedsCreditUpdate encoded decoded soundRecord soundOf heldFrom held runs pushDone takenBy overBy endsBy flushCount flushOver flushAnswer flushDone flushKept flushOf okSettings soundConn soundOver quiet creditOf withState killedOf seenOf absorbed settledOf drainedOf notifyDoor notifyAnswer notifyDone notifyKept notifyOf freshOf openAnswer peerInitOf localInitOf sendTaken notifyTaken nextStep spokenOf receivedOf headerOf recvDoor readsOf recvRefusal recvDone recvKept recvOf heardOf movedOf updatedOf onResponse onShutdown onData ruleOf goesOf planOf killsOf sendDoorOf sendLate carried sendDoor sendAnswer sendDone sendKept sendOf accepted gathered outs
+unfolding when isDone whenDone isRingSize isThreshold isTimeout isClock isPacketLength isHeaderLength doorOf lateOf lowestOf recordAnswer clockAnswer copied peerAvailCredit peerNeedsCreditUpdate encoded decoded soundRecord soundOf heldFrom held runs pushDone takenBy overBy endsBy flushCount flushOver flushAnswer flushDone flushKept flushOf okSettings soundConn soundOver quiet creditOf withState killedOf seenOf absorbed settledOf drainedOf notifyDoor notifyAnswer notifyDone notifyKept notifyOf freshOf openAnswer peerInitOf localInitOf sendTaken notifyTaken turnStep spokenOf receivedOf headerOf recvDoor turnReads recvRefusal recvDone recvKept recvOf heardOf movedOf updatedOf onResponse onShutdown onData ruleOf goesOf planOf killsOf sendDoorOf sendLate carried sendDoor sendAnswer sendDone sendKept sendOf accepted gathered outs
 computed = record {
   taken-a = refl;
   accepted-a = refl;

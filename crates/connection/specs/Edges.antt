@@ -14,16 +14,16 @@ use Rattle.packet.specs.Header.{decoded, encoded}
 use Rattle.packet.specs.Edges.{bytesA}
 use Rattle.txbuf.specs.Record.{held}
 use Rattle.txbuf.specs.declared.record.TxBuf.{TxBuf}
+use Rattle.csm.specs.declared.timer.Timer.{Timer}
+use Rattle.csm.specs.declared.timer.Timer.the-variants.{Unset, At}
+use Rattle.csm.specs.declared.state.ConnState.the-variants.{Established, LocalClosed, Killed}
 use Rattle.connection.specs.Record.{creditOf}
 use Rattle.connection.specs.Open.{none, freshOf, peerInitOf, Opening}
 use Rattle.connection.specs.Look.{FlagLeft, hasExpiredOf}
 use Rattle.connection.specs.Notify.{NotifyLeft, notifyOf}
 use Rattle.connection.specs.Receive.{RecvLeft, recvOf}
 use Rattle.connection.specs.Send.{SendLeft, sendOf}
-use Rattle.connection.specs.declared.record.Timer.{Timer}
-use Rattle.connection.specs.declared.record.Timer.the-variants.{Unset, At}
 use Rattle.connection.specs.declared.record.VsockConnection.{VsockConnection}
-use Rattle.connection.specs.declared.state.ConnState.the-variants.{Established, LocalClosed, Killed}
 
 -- a guest's opening: CIDs 2 and 3, ports 1024 and 5000, with so much space
 abbrev opening : ℕ → Opening

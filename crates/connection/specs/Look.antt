@@ -2,20 +2,21 @@
 -- clock 3 for one over 2^62, and then gives a fixed value. Assumes nothing.
 use Prim.Native.Nat.{ℕ}
 use mathlib.Core.Path.{_≡_}
-use mathlib.Core.Bool.{Bool, false, not, _&&_, _||_}
-use lib.Dec.{ltb, leb, eqb}
+use mathlib.Core.Bool.{Bool, false, not, _&&_}
+use lib.Dec.{eqb}
 use Rattle.defs.specs.Ladder.{recordAnswer, clockAnswer}
 use Rattle.defs.specs.Answer.{Told, told, whenDone}
 use Rattle.defs.specs.declared.answer.Answer.{Answer}
-use Rattle.connection.specs.State.{polls}
+use Rattle.csm.specs.State.{polls}
+use Rattle.csm.specs.Pending.{isPending}
+use Rattle.csm.specs.Timer.{isAfter, isDue}
+use Rattle.csm.specs.declared.timer.Timer.{Timer}
+use Rattle.csm.specs.declared.timer.Timer.the-variants.{Unset}
+use Rattle.csm.specs.declared.state.ConnState.{ConnState}
+use Rattle.csm.specs.declared.state.ConnState.the-variants.{LocalInit}
 use Rattle.connection.specs.Record.{soundConn, quiet, creditOf, killedOf}
 use Rattle.connection.specs.Open.{ConnLeft}
-use Rattle.connection.specs.declared.record.PendingRxSet.{PendingRxSet}
-use Rattle.connection.specs.declared.record.Timer.{Timer}
-use Rattle.connection.specs.declared.record.Timer.the-variants.{Unset, At}
 use Rattle.connection.specs.declared.record.VsockConnection.{VsockConnection}
-use Rattle.connection.specs.declared.state.ConnState.{ConnState}
-use Rattle.connection.specs.declared.state.ConnState.the-variants.{LocalInit}
 
 pub record FlagLeft : Type 0 where
   pub answer : Told
@@ -25,10 +26,6 @@ pub record FlagLeft : Type 0 where
 abbrev pub lookAnswer : VsockConnection → Answer
 lookAnswer c = recordAnswer (soundConn c)
 
--- any indication is pending
-unfoldable pub isPending : PendingRxSet → Bool
-isPending p = p .request || p .response || p .rst || p .rw || p .«credit_update»
-
 unfoldable pub pendingOf : VsockConnection → FlagLeft
 pendingOf c = record { answer = told (lookAnswer c); yes = whenDone (lookAnswer c) (isPending (c .«pending_rx»)) false }
 
@@ -36,16 +33,6 @@ abbrev pub PendingSays : VsockConnection → FlagLeft → Type 0
 PendingSays c left = left ≡ pendingOf c
 
 -- ---- timers
-
--- time > now
-abbrev pub after : Timer → ℕ → Bool
-after Unset clock = false
-after (At time) clock = ltb clock time
-
--- time <= now
-abbrev pub due : Timer → ℕ → Bool
-due Unset clock = false
-due (At time) clock = leb time clock
 
 pub record Timed : Type 0 where
   pub conn : VsockConnection
@@ -55,13 +42,13 @@ abbrev pub timedAnswer : Timed → Answer
 timedAnswer i = clockAnswer (soundConn (i .conn)) (i .clock)
 
 unfoldable pub willExpireOf : Timed → FlagLeft
-willExpireOf i = record { answer = told (timedAnswer i); yes = whenDone (timedAnswer i) (after (i .conn .expiry) (i .clock)) false }
+willExpireOf i = record { answer = told (timedAnswer i); yes = whenDone (timedAnswer i) (isAfter (i .conn .expiry) (i .clock)) false }
 
 abbrev pub WillExpireSays : Timed → FlagLeft → Type 0
 WillExpireSays i left = left ≡ willExpireOf i
 
 unfoldable pub hasExpiredOf : Timed → FlagLeft
-hasExpiredOf i = record { answer = told (timedAnswer i); yes = whenDone (timedAnswer i) (due (i .conn .expiry) (i .clock)) false }
+hasExpiredOf i = record { answer = told (timedAnswer i); yes = whenDone (timedAnswer i) (isDue (i .conn .expiry) (i .clock)) false }
 
 abbrev pub HasExpiredSays : Timed → FlagLeft → Type 0
 HasExpiredSays i left = left ≡ hasExpiredOf i

@@ -6,7 +6,7 @@ use lib.ListN.{length}
 use Rattle.defs.specs.Answer.{whenDone}
 use Rattle.defs.specs.Choice.{when}
 use Rattle.defs.specs.Wrapping.{wadd}
-use Rattle.txbuf.specs.Record.{Wide, held}
+use Rattle.txbuf.specs.Record.{Wide}
 use Rattle.txbuf.specs.declared.record.TxBuf.{TxBuf}
 use Rattle.connection.specs.Send.{SendIn, sendAnswer, sendPlan}
 use Rattle.connection.specs.Notify.{NotifyIn, notifyAnswer, due, flushed}

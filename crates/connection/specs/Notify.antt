@@ -13,8 +13,9 @@ use Rattle.defs.specs.declared.answer.Answer.the-variants.{Done}
 use Rattle.defs.specs.declared.stream.StreamAnswers.{StreamAnswers}
 use Rattle.txbuf.specs.Flush.{FlushIn, FlushLeft, flushAnswer, flushOf}
 use Rattle.txbuf.specs.declared.record.TxBuf.{TxBuf}
-use Rattle.connection.specs.State.{bothOff}
-use Rattle.connection.specs.Record.{soundOver, quiet, withState, marked, killedOf}
+use Rattle.csm.specs.State.{bothOff}
+use Rattle.csm.specs.Pending.{marked}
+use Rattle.connection.specs.Record.{soundOver, quiet, withState, killedOf}
 use Rattle.connection.specs.Send.{failed, movedOf, updatedOf}
 use Rattle.connection.specs.declared.record.VsockConnection.{VsockConnection}
 

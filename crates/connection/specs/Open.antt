@@ -6,13 +6,13 @@ use Rattle.defs.specs.Ladder.{recordAnswer}
 use Rattle.defs.specs.Answer.{Told, told, whenDone}
 use Rattle.defs.specs.Limits.{isRingSize}
 use Rattle.defs.specs.declared.answer.Answer.{Answer}
+use Rattle.csm.specs.declared.pending.PendingRxSet.{PendingRxSet}
+use Rattle.csm.specs.declared.timer.Timer.the-variants.{Unset}
+use Rattle.csm.specs.declared.state.ConnState.{ConnState}
+use Rattle.csm.specs.declared.state.ConnState.the-variants.{LocalInit, PeerInit}
 use Rattle.connection.specs.Record.{okSettings}
 use Rattle.connection.specs.declared.record.Settings.{Settings}
-use Rattle.connection.specs.declared.record.PendingRxSet.{PendingRxSet}
-use Rattle.connection.specs.declared.record.Timer.the-variants.{Unset}
 use Rattle.connection.specs.declared.record.VsockConnection.{VsockConnection}
-use Rattle.connection.specs.declared.state.ConnState.{ConnState}
-use Rattle.connection.specs.declared.state.ConnState.the-variants.{LocalInit, PeerInit}
 
 -- what an opening is given: ring size, the other settings, addresses, and the guest's space
 pub record Opening : Type 0 where

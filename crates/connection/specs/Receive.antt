@@ -1,7 +1,7 @@
--- `recv_pkt` (01, section of that name): a step by what is pending, a row of a table for each step, and what a row leaves. Assumes nothing.
+-- `recv_pkt` (01, section of that name): the step of the state machine, and what its row leaves of record, header and buffer. Assumes nothing.
 use Prim.Native.Nat.{ℕ, _+_, _≤_, min}
 use mathlib.Core.Path.{_≡_}
-use mathlib.Core.Bool.{Bool, true, false, not, _&&_, _||_}
+use mathlib.Core.Bool.{Bool, false, not, _&&_, _||_}
 use mathlib.Core.List.{List, _++_}
 use lib.ListN.{length, take, drop}
 use lib.Dec.{ltb, eqb}
@@ -12,119 +12,30 @@ use Rattle.defs.specs.Stream.{readCounted}
 use Rattle.defs.specs.Ladder.{doorOf, lateOf, lowestOf}
 use Rattle.defs.specs.Wrapping.{wadd}
 use Rattle.defs.specs.declared.answer.Answer.{Answer}
-use Rattle.defs.specs.declared.answer.Answer.the-variants.{Done, NoData, PktBufMissing}
 use Rattle.defs.specs.declared.stream.ReadAnswer.{ReadAnswer}
-use Rattle.defs.specs.declared.stream.ReadAnswer.the-variants.{Count, WouldBlock, Failed}
-use Rattle.packet.specs.Uapi.{opRequest, opResponse, opRst, opShutdown, opRw, opCreditUpdate, opCreditRequest, typeStream, flagShutdownRcv, flagShutdownSend}
+use Rattle.packet.specs.Uapi.{typeStream}
 use Rattle.packet.specs.Header.{encoded}
 use Rattle.packet.specs.declared.hdr.VsockPacketHdr.{VsockPacketHdr}
-use Rattle.connection.specs.State.{gives}
+use Rattle.csm.specs.Pending.{leftOf}
+use Rattle.csm.specs.Turn.{turnStep, turnReads}
+use Rattle.csm.specs.Row.{rowOf, afterwards, armed}
+use Rattle.csm.specs.declared.pending.PendingRxSet.{PendingRxSet}
+use Rattle.csm.specs.declared.timer.Timer.{Timer}
+use Rattle.csm.specs.declared.timer.Timer.the-variants.{At}
+use Rattle.csm.specs.declared.state.ConnState.{ConnState}
+use Rattle.csm.specs.declared.turn.RxStep.{RxStep}
+use Rattle.csm.specs.declared.row.Row.{Row}
 use Rattle.connection.specs.Record.{soundConn, creditOf}
-use Rattle.connection.specs.declared.record.PendingRxSet.{PendingRxSet}
-use Rattle.connection.specs.declared.record.Timer.{Timer}
-use Rattle.connection.specs.declared.record.Timer.the-variants.{At}
 use Rattle.connection.specs.declared.record.VsockConnection.{VsockConnection}
-use Rattle.connection.specs.declared.state.ConnState.{ConnState}
-use Rattle.connection.specs.declared.state.ConnState.the-variants.{Established, LocalClosed}
-use Rattle.connection.specs.declared.receive.RxStep.{RxStep}
-use Rattle.connection.specs.declared.receive.RxStep.the-variants.{Rst, Response, Request, Refuse, AskCredit, NoBuffer, Data, Close, Fail, Update, Nothing}
-use Rattle.connection.specs.declared.receive.After.{After}
-use Rattle.connection.specs.declared.receive.After.the-variants.{Same, Opens, Closes}
-use Rattle.connection.specs.declared.receive.Arms.{Arms}
-use Rattle.connection.specs.declared.receive.Arms.the-variants.{Keep, Wait, Linger}
-use Rattle.connection.specs.declared.receive.Row.{Row}
 
--- ---- the step
-
--- a read of no bytes: the stream has ended
-abbrev pub isEnd : ReadAnswer → Bool
-isEnd (Count n) = eqb n 0
-isEnd WouldBlock = false
-isEnd Failed = false
-
--- a positive count is data, 0 closes, a would-block falls through, a failure fails
-abbrev pub readStep : ReadAnswer → Bool → RxStep → RxStep
-readStep (Count n) end update = when end Close (Data n)
-readStep WouldBlock end update = update
-readStep Failed end update = Fail
-
--- Rw out of state: RST; then credit 0: CREDIT_REQUEST; then the buffer is needed
-abbrev pub dataStep : Bool → Bool → Bool → RxStep → RxStep
-dataStep gives blocked present read = when gives (when blocked AskCredit (when present read NoBuffer)) Refuse
-
-abbrev pub updateStep : Bool → RxStep
-updateStep update = when update Update Nothing
-
--- the first pending of Rst; Response; Request; Rw; CreditUpdate
-abbrev pub rxStep : PendingRxSet → RxStep → RxStep → RxStep
-rxStep p some update = when (p .rst) Rst (when (p .response) Response (when (p .request) Request (when (p .rw) some update)))
-
-unfoldable pub nextStep : VsockConnection → Bool → ReadAnswer → RxStep
-nextStep c present a =
-    rxStep (c .«pending_rx»)
-    (dataStep (gives (c .state)) (eqb (creditOf c) 0) present (readStep a (isEnd a) (updateStep (c .«pending_rx» .«credit_update»))))
-    (updateStep (c .«pending_rx» .«credit_update»))
-
--- ---- the table
-
-abbrev is : Answer → ℕ → ℕ → ℕ → Bool → Bool → After → Arms → Row
-is answer op flags count tells ends after arms = record {
-  answer = answer;
-  op = op;
-  flags = flags;
-  count = count;
-  tells = tells;
-  ends = ends;
-  after = after;
-  arms = arms;
-}
-
--- a row that carries no data and leaves state and timer
-abbrev pub plainRow : Answer → ℕ → Bool → Bool → Row
-plainRow answer op tells ends = is answer op 0 0 tells ends Same Keep
-
--- one that moves state or timer, and tells the guest nothing
-abbrev pub turningRow : ℕ → After → Arms → Row
-turningRow op after arms = is Done op 0 0 false false after arms
-
--- step, then answer, op, flags, len, whether last-told is updated, whether a pending update ends, state, timer
-abbrev pub rowOf : RxStep → Row
-rowOf Rst = is Done opRst 0 0 false false Same Keep
-rowOf Response = is Done opResponse 0 0 false false Opens Keep
-rowOf Request = is Done opRequest 0 0 false false Same Wait
-rowOf Refuse = is Done opRst 0 0 false false Same Keep
-rowOf AskCredit = is Done opCreditRequest 0 0 true false Same Keep
-rowOf NoBuffer = is PktBufMissing 0 0 0 false false Same Keep
-rowOf (Data n) = is Done opRw 0 n true false Same Keep
-rowOf Close = is Done opShutdown (flagShutdownRcv + flagShutdownSend) 0 true false Closes Linger
-rowOf Fail = is Done opRst 0 0 true false Same Keep
-rowOf Update = is Done opCreditUpdate 0 0 true true Same Keep
-rowOf Nothing = is NoData 0 0 0 false true Same Keep
+-- what is said at this turn
+abbrev pub nextStep : VsockConnection → Bool → ReadAnswer → RxStep
+nextStep c present a = turnStep (c .«pending_rx») (c .state) (eqb (creditOf c) 0) present a
 
 -- ---- what a row leaves
 
-abbrev pub afterwards : After → ConnState → ConnState
-afterwards Same state = state
-afterwards Opens state = Established
-afterwards Closes state = LocalClosed
-
-abbrev pub armed : Arms → Timer → Timer → Timer → Timer
-armed Keep expiry wait linger = expiry
-armed Wait expiry wait linger = wait
-armed Linger expiry wait linger = linger
-
 abbrev pub later : ℕ → ℕ → Timer
 later clock wait = At (clock + wait)
-
--- the used indication is gone, those behind it stay
-abbrev pub leftOf : PendingRxSet → Bool → PendingRxSet
-leftOf p ends = record {
-  request = p .request && (p .rst || p .response);
-  response = p .response && p .rst;
-  rst = false;
-  rw = p .rw && (p .rst || p .response || p .request);
-  «credit_update» = p .«credit_update» && not ends;
-}
 
 -- sent rises by the count (wrapping), last-told by the row
 unfoldable pub spokenOf : VsockConnection → ℕ → Bool → ConnState → PendingRxSet → Timer → VsockConnection
@@ -194,11 +105,9 @@ unfoldable pub recvDoor : VsockConnection → ℕ → Bool → ℕ → ℕ → A
 recvDoor c hdr present buf clock =
     doorOf (not (soundConn c)) (not (isHeaderLength hdr)) (not (isClock clock)) (present && not (isPacketLength buf))
 
--- this turn reads from the stream: Rw is first, the state gives, credit isn't 0, and there is a buffer
-unfoldable pub readsOf : VsockConnection → Bool → Bool
-readsOf c present =
-    not (c .«pending_rx» .rst) && not (c .«pending_rx» .response) && not (c .«pending_rx» .request) && c .«pending_rx» .rw && gives (c .state)
-    && not (eqb (creditOf c) 0) && present
+-- this turn reads from the stream
+abbrev pub readsOf : VsockConnection → Bool → Bool
+readsOf c present = turnReads (c .«pending_rx») (c .state) (eqb (creditOf c) 0) present
 
 -- the read asks for the smaller of buffer and credit
 abbrev pub askedOf : VsockConnection → ℕ → ℕ

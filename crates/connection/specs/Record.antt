@@ -1,16 +1,17 @@
 -- The record of a connection (01, "The numbers of a connection"): what is sound, and the numbers that rules go by. Assumes nothing.
 use Prim.Native.Nat.{ℕ}
-use mathlib.Core.Bool.{Bool, true, false, _&&_, _||_}
+use mathlib.Core.Bool.{Bool, true, false, _&&_}
 use lib.Dec.{eqb}
 use Rattle.defs.specs.Limits.{isThreshold, isTimeout}
 use Rattle.defs.specs.Credit.{peerAvailCredit}
 use Rattle.txbuf.specs.Record.{usedOf, soundRecord, soundOf}
+use Rattle.csm.specs.Pending.{marked}
+use Rattle.csm.specs.declared.pending.PendingRxSet.{PendingRxSet}
+use Rattle.csm.specs.declared.timer.Timer.{Timer}
+use Rattle.csm.specs.declared.state.ConnState.{ConnState}
+use Rattle.csm.specs.declared.state.ConnState.the-variants.{Killed}
 use Rattle.connection.specs.declared.record.Settings.{Settings}
-use Rattle.connection.specs.declared.record.PendingRxSet.{PendingRxSet}
-use Rattle.connection.specs.declared.record.Timer.{Timer}
 use Rattle.connection.specs.declared.record.VsockConnection.{VsockConnection}
-use Rattle.connection.specs.declared.state.ConnState.{ConnState}
-use Rattle.connection.specs.declared.state.ConnState.the-variants.{Killed}
 
 -- T from 1 to R, both timeouts from 1 to 60,000 ms
 unfoldable pub okSettings : Settings → ℕ → Bool
@@ -49,16 +50,6 @@ withState c state expiry pending = record {
   «last_fwd_cnt_to_peer» = c .«last_fwd_cnt_to_peer»;
   «pending_rx» = pending;
   expiry = expiry;
-}
-
--- what is set of Rst, Rw and CreditUpdate besides
-abbrev pub marked : PendingRxSet → Bool → Bool → Bool → PendingRxSet
-marked p rst rw update = record {
-  request = p .request;
-  response = p .response;
-  rst = p .rst || rst;
-  rw = p .rw || rw;
-  «credit_update» = p .«credit_update» || update;
 }
 
 -- KILLED: the state, and a reset pending; the other indications stay, as in the Rust

@@ -10,6 +10,8 @@ use Rattle.defs.specs.Choice.{when}
 use Rattle.defs.specs.Stream.{counted}
 use Rattle.defs.specs.declared.answer.Answer.{Answer}
 use Rattle.txbuf.specs.Record.{usedOf, held}
+use Rattle.csm.specs.declared.state.ConnState.{ConnState}
+use Rattle.csm.specs.declared.state.ConnState.the-variants.{PeerClosed, LocalClosed, Killed}
 use Rattle.connection.specs.Record.{soundConn, soundOver, quiet, creditOf}
 use Rattle.connection.specs.Open.{Opening, ConnLeft, PeerInitSays, LocalInitSays}
 use Rattle.connection.specs.Look.{FlagLeft, PendingSays, Timed, WillExpireSays, HasExpiredSays, ExpiryLeft, ExpirySays, StateLeft, StateSays, EvSetLeft, EvSetSays, KillSays}
@@ -19,8 +21,6 @@ use Rattle.connection.specs.Notify.{NotifyIn, NotifyLeft, NotifySays, du
 use Rattle.connection.specs.Moves.{sendTaken, notifyTaken}
 use Rattle.connection.specs.Offer.{Given, AskedLeft, SendDoorSays, SendWritesSays, SendOfferedSays, RecvDoorSays, RecvAskedSays, NotifyDoorSays, NotifyOfferedSays, NotifyNextSays, RawDoorSays, RawOfferedSays}
 use Rattle.connection.specs.declared.record.VsockConnection.{VsockConnection}
-use Rattle.connection.specs.declared.state.ConnState.{ConnState}
-use Rattle.connection.specs.declared.state.ConnState.the-variants.{PeerClosed, LocalClosed, Killed}
 
 -- ---- calls
 

@@ -23,12 +23,13 @@ use Rattle.packet.specs.declared.hdr.VsockPacketHdr.{VsockPacketHdr}
 use Rattle.txbuf.specs.Record.{usedOf}
 use Rattle.txbuf.specs.Push.{PushLeft, pushAnswer, pushDone}
 use Rattle.txbuf.specs.declared.record.TxBuf.{TxBuf}
-use Rattle.connection.specs.State.{takes, asks, isLocalInit, isEstablished, shutBy, bothOff}
-use Rattle.connection.specs.Record.{soundOver, quiet, withState, marked, killedOf}
+use Rattle.csm.specs.State.{takes, asks, isLocalInit, isEstablished, shutBy, bothOff}
+use Rattle.csm.specs.Pending.{marked}
+use Rattle.csm.specs.declared.timer.Timer.the-variants.{Unset}
+use Rattle.csm.specs.declared.state.ConnState.the-variants.{Established}
+use Rattle.connection.specs.Record.{soundOver, quiet, withState, killedOf}
 use Rattle.connection.specs.Receive.{later}
-use Rattle.connection.specs.declared.record.Timer.the-variants.{Unset}
 use Rattle.connection.specs.declared.record.VsockConnection.{VsockConnection}
-use Rattle.connection.specs.declared.state.ConnState.the-variants.{Established}
 use Rattle.connection.specs.declared.send.SendPlan.{SendPlan}
 
 abbrev pub failed : StreamAnswer → Bool

@@ -2,17 +2,19 @@
 ghost use mathlib.Core.Path.{_≡_};
 ghost use Rattle.defs.specs.Answer.{told};
 ghost use Rattle.connection.specs.Open.{ConnLeft};
-ghost use Rattle.connection.specs.Look.{isPending, after, due, Timed, FlagLeft, PendingSays, WillExpireSays, HasExpiredSays, ExpiryLeft, ExpirySays, StateLeft, StateSays, EvSetLeft, EvSetSays, KillSays};
+ghost use Rattle.connection.specs.Look.{Timed, FlagLeft, PendingSays, WillExpireSays, HasExpiredSays, ExpiryLeft, ExpirySays, StateLeft, StateSays, EvSetLeft, EvSetSays, KillSays};
 use crate::record::Outcome;
-use crate::record::PendingRxSet;
-use crate::record::Timer;
 use crate::record::VsockConnection;
 use crate::record::credit;
 use crate::record::is_quiet;
 use crate::record::is_sound;
 use crate::record::killed;
-use crate::state::ConnState;
-use crate::state::polls;
+use csm::ConnState;
+use csm::Timer;
+use csm::is_after;
+use csm::is_due;
+use csm::is_pending;
+use csm::polls;
 use defs::Answer;
 use defs::limits;
 
@@ -145,29 +147,5 @@ impl VsockConnection {
             answer,
             conn: killed(self),
         }
-    }
-}
-
-fn is_pending(pending: PendingRxSet) -> bool
-    ensures { λ r. ⌜ r ≡ isPending pending ⌝ }
-{
-    pending.request | pending.response | pending.rst | pending.rw | pending.credit_update
-}
-
-fn is_after(expiry: Timer, now_ms: u64) -> bool
-    ensures { λ r. ⌜ r ≡ after expiry «now_ms» ⌝ }
-{
-    match expiry {
-        Timer::Unset => false,
-        Timer::At(time) => now_ms < time,
-    }
-}
-
-fn is_due(expiry: Timer, now_ms: u64) -> bool
-    ensures { λ r. ⌜ r ≡ due expiry «now_ms» ⌝ }
-{
-    match expiry {
-        Timer::Unset => false,
-        Timer::At(time) => time <= now_ms,
     }
 }

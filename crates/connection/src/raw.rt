@@ -2,12 +2,10 @@
 ghost use mathlib.Core.Path.{_≡_};
 ghost use lib.ListN.{length};
 ghost use Rattle.defs.specs.Answer.{told};
-ghost use Rattle.defs.specs.Stream.{counted};
 ghost use Rattle.connection.specs.Raw.{rawDoor, RawIn, RawLeft, RawSays};
 use crate::record::VsockConnection;
 use crate::record::is_sound;
 use defs::Answer;
-use defs::StreamAnswer;
 use defs::StreamAnswers;
 use defs::limits;
 
@@ -30,7 +28,7 @@ impl VsockConnection {
         ensures { λ r. ⌜ RawSays (record { conn = self; buf = now (buf .entry); answers = answers; out = now (out .entry) }) (record { answer = told (r .answer); count = r .count; out = now (out .exit) }) ⌝ }
     {
         let first = answers.first;
-        let count = count_of(first);
+        let count = defs::count_of(first);
         let door = self.raw_door(buf);
         let late = defs::late(buf.len() < count, out.len() < count);
         let answer = defs::lowest(defs::lowest(door, late), defs::stopped_by(first));
@@ -40,14 +38,4 @@ impl VsockConnection {
         defs::copy(out, &buf[..count]);
         RawSent { answer, count }
     }
-}
-
-// How many bytes an answer takes.
-pub(crate) fn count_of(answer: StreamAnswer) -> usize
-    ensures { λ r. ⌜ r ≡ counted answer ⌝ }
-{
-    let StreamAnswer::Count(count) = answer else {
-        return 0;
-    };
-    count
 }

@@ -1,75 +1,31 @@
 // A turn to speak: the next packet for the guest (01, `recv_pkt`).
 //
-// First a step is decided, from the record and the stream's answer; each step is a row of one
-// table; then record, header and buffer are written from that row.
+// From the record and the stream's answer the state machine gives one row; then record, header and
+// buffer are written from that row.
 ghost use mathlib.Core.Path.{_≡_};
 ghost use Prim.Native.Nat.{_≤_};
 ghost use Rattle.defs.specs.Answer.{told};
 ghost use Rattle.defs.specs.Choice.{when};
 ghost use Rattle.defs.specs.Limits.{maxPacket, maxClock, maxTimeout};
-ghost use Rattle.defs.specs.Stream.{readCounted};
-ghost use Rattle.connection.specs.Receive.{isEnd, readStep, dataStep, updateStep, rxStep, nextStep, plainRow, turningRow, rowOf, afterwards, armed, leftOf, spokenOf, Receivable, receivedOf, headerOf, readsOf, recvDoor, recvRefusal, later, RecvIn, RecvLeft, RecvSays};
+ghost use Rattle.csm.specs.Row.{rowOf};
+ghost use Rattle.connection.specs.Receive.{nextStep, spokenOf, Receivable, receivedOf, headerOf, readsOf, recvDoor, recvRefusal, later, RecvIn, RecvLeft, RecvSays};
 use crate::record::Outcome;
-use crate::record::PendingRxSet;
-use crate::record::Timer;
 use crate::record::VsockConnection;
 use crate::record::credit;
 use crate::record::is_sound;
 use crate::record::with_state;
-use crate::state::ConnState;
-use crate::state::gives;
+use csm::ConnState;
+use csm::PendingRxSet;
+use csm::Row;
+use csm::Timer;
+use csm::left;
+use csm::state_after;
+use csm::timer_after;
 use defs::Answer;
 use defs::ReadAnswer;
 use defs::limits;
 use packet::VsockPacketHdr;
 use packet::uapi;
-
-// What is said at this turn.
-pub enum RxStep {
-    Rst,
-    Response,
-    Request,
-    // Data is due in a state that gives none.
-    Refuse,
-    // Data is due, and the guest has no room.
-    AskCredit,
-    // Data is due, and no buffer is there to read into.
-    NoBuffer,
-    Data(usize),
-    // The stream has ended.
-    Close,
-    // The stream failed.
-    Fail,
-    Update,
-    Nothing,
-}
-
-// What becomes of the state.
-pub enum After {
-    Same,
-    Opens,
-    Closes,
-}
-
-// What becomes of the timer.
-pub enum Arms {
-    Keep,
-    Wait,
-    Linger,
-}
-
-// A step's answer, the header's op, flags and len, whether the guest is told our fwd_cnt, whether a
-// pending update ends with it, and what becomes of state and timer.
-pub struct Row {
-    pub answer: Answer,
-    pub op: u16,
-    pub flags: u32,
-    pub count: usize,
-    pub tells: bool,
-    pub ends: bool,
-    pub after: After,
-    pub arms: Arms,
-}
 
 impl VsockConnection {
     // Fills in the next packet for the guest. `buf` counts only where it is `present`; `read`
@@ -100,7 +56,7 @@ impl VsockConnection {
                 conn: self,
             };
         };
-        let row = row_of(next_step(self, present, answer));
+        let row = next_row(self, present, answer);
         let count = row.count;
         let said = row.answer;
         packet::encode(header(self, row), hdr);
@@ -125,7 +81,7 @@ fn recv_refusal(
     ensures { λ r. ⌜ r ≡ recvRefusal conn hdr present buf «now_ms» answer read ⌝ }
 {
     let door = door_of(conn, hdr, present, buf, now_ms);
-    let count = read_count(answer);
+    let count = defs::read_count(answer);
     let asked = defs::smaller(buf, credit(conn) as usize);
     let over = reads(conn, present) & ((asked < count) | (read < count));
     defs::lowest(door, defs::late(over, false))
@@ -148,177 +104,22 @@ pub(crate) fn door_of(
     )
 }
 
-// How many bytes the answer to a read brings.
-fn read_count(answer: ReadAnswer) -> usize
-    ensures { λ r. ⌜ r ≡ readCounted answer ⌝ }
-{
-    let ReadAnswer::Count(count) = answer else {
-        return 0;
-    };
-    count
-}
-
 // Whether this turn reads from the stream.
 pub(crate) fn reads(conn: VsockConnection, present: bool) -> bool
     ensures { λ r. ⌜ r ≡ readsOf conn present ⌝ }
 {
-    let p = conn.pending_rx;
+    let pending = conn.pending_rx;
     let state = conn.state;
-    let blocked = credit(conn) == 0;
-    !p.rst & !p.response & !p.request & p.rw & gives(state) & !blocked & present
+    csm::turn_reads(pending, state, credit(conn) == 0, present)
 }
 
-// ---- the step
-
-fn next_step(conn: VsockConnection, present: bool, answer: ReadAnswer) -> RxStep
-    ensures { λ r. ⌜ r ≡ nextStep conn present answer ⌝ }
+// The row of what is said.
+fn next_row(conn: VsockConnection, present: bool, answer: ReadAnswer) -> Row
+    ensures { λ r. ⌜ r ≡ rowOf (nextStep conn present answer) ⌝ }
 {
     let pending = conn.pending_rx;
     let state = conn.state;
-    let update = update_step(pending.credit_update);
-    let read = read_step(answer, is_end(answer), update);
-    let some = data_step(gives(state), credit(conn) == 0, present, read);
-    rx_step(pending, some, update)
-}
-
-// The first that is pending of Rst, Response, Request, Rw and CreditUpdate.
-fn rx_step(pending: PendingRxSet, some: RxStep, update: RxStep) -> RxStep
-    ensures { λ r. ⌜ r ≡ rxStep pending some update ⌝ }
-{
-    if pending.rst {
-        return RxStep::Rst;
-    }
-    if pending.response {
-        return RxStep::Response;
-    }
-    if pending.request {
-        return RxStep::Request;
-    }
-    if pending.rw { some } else { update }
-}
-
-// Credit before buffer: a guest without room is asked for it, whether there is a buffer or not.
-fn data_step(gives: bool, blocked: bool, present: bool, read: RxStep) -> RxStep
-    ensures { λ r. ⌜ r ≡ dataStep gives blocked present read ⌝ }
-{
-    if gives {
-        if blocked {
-            return RxStep::AskCredit;
-        }
-        if present { read } else { RxStep::NoBuffer }
-    } else {
-        RxStep::Refuse
-    }
-}
-
-fn read_step(answer: ReadAnswer, end: bool, update: RxStep) -> RxStep
-    ensures { λ r. ⌜ r ≡ readStep answer end update ⌝ }
-{
-    match answer {
-        ReadAnswer::Count(count) => if end {
-            RxStep::Close
-        } else {
-            RxStep::Data(count)
-        },
-        ReadAnswer::WouldBlock => update,
-        ReadAnswer::Failed => RxStep::Fail,
-    }
-}
-
-fn update_step(update: bool) -> RxStep
-    ensures { λ r. ⌜ r ≡ updateStep update ⌝ }
-{
-    if update {
-        RxStep::Update
-    } else {
-        RxStep::Nothing
-    }
-}
-
-// A read of no bytes: the stream has ended.
-fn is_end(answer: ReadAnswer) -> bool
-    ensures { λ r. ⌜ r ≡ isEnd answer ⌝ }
-{
-    match answer {
-        ReadAnswer::Count(count) => count == 0,
-        ReadAnswer::WouldBlock => false,
-        ReadAnswer::Failed => false,
-    }
-}
-
-// ---- the table
-
-fn row_of(step: RxStep) -> Row
-    ensures { λ r. ⌜ r ≡ rowOf step ⌝ }
-{
-    match step {
-        RxStep::Rst => plain(Answer::Done, uapi::VSOCK_OP_RST, false, false),
-        RxStep::Response => turning(uapi::VSOCK_OP_RESPONSE, After::Opens, Arms::Keep),
-        RxStep::Request => turning(uapi::VSOCK_OP_REQUEST, After::Same, Arms::Wait),
-        RxStep::Refuse => plain(Answer::Done, uapi::VSOCK_OP_RST, false, false),
-        RxStep::AskCredit => plain(Answer::Done, uapi::VSOCK_OP_CREDIT_REQUEST, true, false),
-        RxStep::NoBuffer => plain(Answer::PktBufMissing, 0, false, false),
-        RxStep::Data(count) => data_row(count),
-        RxStep::Close => close_row(),
-        RxStep::Fail => plain(Answer::Done, uapi::VSOCK_OP_RST, true, false),
-        RxStep::Update => plain(Answer::Done, uapi::VSOCK_OP_CREDIT_UPDATE, true, true),
-        RxStep::Nothing => plain(Answer::NoData, 0, false, true),
-    }
-}
-
-// A row that carries no data and leaves state and timer.
-fn plain(answer: Answer, op: u16, tells: bool, ends: bool) -> Row
-    ensures { λ r. ⌜ r ≡ plainRow answer op tells ends ⌝ }
-{
-    Row {
-        answer,
-        op,
-        flags: 0,
-        count: 0,
-        tells,
-        ends,
-        after: After::Same,
-        arms: Arms::Keep,
-    }
-}
-
-// One that moves state or timer, and tells the guest nothing.
-fn turning(op: u16, after: After, arms: Arms) -> Row
-    ensures { λ r. ⌜ r ≡ turningRow op after arms ⌝ }
-{
-    Row {
-        answer: Answer::Done,
-        op,
-        flags: 0,
-        count: 0,
-        tells: false,
-        ends: false,
-        after,
-        arms,
-    }
-}
-
-fn data_row(count: usize) -> Row
-    ensures { λ r. ⌜ r ≡ rowOf (RxStep.Data count) ⌝ }
-{
-    let mut row = plain(Answer::Done, uapi::VSOCK_OP_RW, true, false);
-    row.count = count;
-    row
-}
-
-fn close_row() -> Row
-    ensures { λ r. ⌜ r ≡ rowOf RxStep.Close ⌝ }
-{
-    Row {
-        answer: Answer::Done,
-        op: uapi::VSOCK_OP_SHUTDOWN,
-        flags: uapi::VSOCK_FLAGS_SHUTDOWN_RCV + uapi::VSOCK_FLAGS_SHUTDOWN_SEND,
-        count: 0,
-        tells: true,
-        ends: false,
-        after: After::Closes,
-        arms: Arms::Linger,
-    }
+    csm::row_of(csm::turn_step(pending, state, credit(conn) == 0, present, answer))
 }
 
 // ---- what a row leaves
@@ -346,44 +147,11 @@ fn received(conn: VsockConnection, row: Row, now_ms: u64) -> VsockConnection
     )
 }
 
-fn state_after(after: After, state: ConnState) -> ConnState
-    ensures { λ r. ⌜ r ≡ afterwards after state ⌝ }
-{
-    match after {
-        After::Same => state,
-        After::Opens => ConnState::Established,
-        After::Closes => ConnState::LocalClosed,
-    }
-}
-
-fn timer_after(arms: Arms, expiry: Timer, wait: Timer, linger: Timer) -> Timer
-    ensures { λ r. ⌜ r ≡ armed arms expiry wait linger ⌝ }
-{
-    match arms {
-        Arms::Keep => expiry,
-        Arms::Wait => wait,
-        Arms::Linger => linger,
-    }
-}
-
 pub(crate) fn later_by(now_ms: u64, wait: u64) -> Timer
     requires { ⌜ («now_ms» ≤ maxClock) × (wait ≤ maxTimeout) ⌝ }
     ensures { λ r. ⌜ r ≡ later «now_ms» wait ⌝ }
 {
     Timer::At(now_ms + wait)
-}
-
-// The indication that was used is gone; those behind it stay.
-fn left(pending: PendingRxSet, ends: bool) -> PendingRxSet
-    ensures { λ r. ⌜ r ≡ leftOf pending ends ⌝ }
-{
-    PendingRxSet {
-        request: pending.request & (pending.rst | pending.response),
-        response: pending.response & pending.rst,
-        rst: false,
-        rw: pending.rw & (pending.rst | pending.response | pending.request),
-        credit_update: pending.credit_update & !ends,
-    }
 }
 
 // So many bytes went to the guest; where it is told our fwd_cnt, that is kept.

@@ -1,7 +1,10 @@
 // The record of a connection, and what is sound.
 ghost use mathlib.Core.Path.{_≡_};
-ghost use Rattle.connection.specs.Record.{okSettings, soundConn, soundOver, quiet, creditOf, withState, marked, killedOf};
-use crate::state::ConnState;
+ghost use Rattle.connection.specs.Record.{okSettings, soundConn, soundOver, quiet, creditOf, withState, killedOf};
+use csm::ConnState;
+use csm::PendingRxSet;
+use csm::Timer;
+use csm::mark;
 use defs::Answer;
 use defs::limits;
 use txbuf::TxBuf;
@@ -11,21 +14,6 @@ pub struct Settings {
     pub threshold: u32,
     pub request_timeout: u64,
     pub shutdown_timeout: u64,
-}
-
-// The packets that are to be handed to the guest.
-pub struct PendingRxSet {
-    pub request: bool,
-    pub response: bool,
-    pub rst: bool,
-    pub rw: bool,
-    pub credit_update: bool,
-}
-
-// When the connection is to be ended, if at all, in milliseconds.
-pub enum Timer {
-    Unset,
-    At(u64),
 }
 
 pub struct VsockConnection {
@@ -123,18 +111,6 @@ pub(crate) fn with_state(
         last_fwd_cnt_to_peer: conn.last_fwd_cnt_to_peer,
         pending_rx,
         expiry,
-    }
-}
-
-pub(crate) fn mark(pending: PendingRxSet, rst: bool, rw: bool, update: bool) -> PendingRxSet
-    ensures { λ r. ⌜ r ≡ marked pending rst rw update ⌝ }
-{
-    PendingRxSet {
-        request: pending.request,
-        response: pending.response,
-        rst: pending.rst | rst,
-        rw: pending.rw | rw,
-        credit_update: pending.credit_update | update,
     }
 }
 

@@ -35,6 +35,8 @@ edges-hold = record { e = (refl, (refl, (refl, tt))); h = (refl, tt) }
 pub each-call-pinned : EachCallPinned
 each-call-pinned = record {
   number-of = by-equation _ _ _;
+  count-of = by-equation _ _ _;
+  read-count = by-equation _ _ _;
   stopped-by = by-equation _ _ _;
   is-ring-size = by-equation _ _ _;
   is-threshold = by-equation _ _ _;

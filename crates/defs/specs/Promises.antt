@@ -5,7 +5,7 @@ use mathlib.Core.Bool.{Bool, true, false}
 use mathlib.Core.List.{List, [], _∷_}
 use lib.ListN.{getD}
 use Rattle.defs.specs.Answer.{told}
-use Rattle.defs.specs.Stream.{stoppedBy}
+use Rattle.defs.specs.Stream.{counted, readCounted, stoppedBy}
 use Rattle.defs.specs.Limits.{minRing, maxRing, isRingSize, isThreshold, isTimeout, isRxqLimit, isKillqLimit, isSlotCount, isClock, isPacketLength, isHeaderLength}
 use Rattle.defs.specs.Ladder.{doorOf, lateOf, lowestOf}
 use Rattle.defs.specs.Wrapping.{wadd, wsub}
@@ -16,6 +16,7 @@ use Rattle.defs.specs.Reading.{Hold}
 use Rattle.defs.specs.Edges.{readingE, readingH}
 use Rattle.defs.specs.declared.answer.Answer.{Answer}
 use Rattle.defs.specs.declared.stream.StreamAnswer.{StreamAnswer}
+use Rattle.defs.specs.declared.stream.ReadAnswer.{ReadAnswer}
 
 -- each of the two facts holds where the other does
 abbrev pub Exactly : Type 0 → Type 0 → Type 0
@@ -70,6 +71,8 @@ pub record EdgesHold : Type 0 where
 -- every public call: any two outcomes that meet its contract are identical
 pub record EachCallPinned : Type 0 where
   pub number-of : Pinned Answer ℕ (λ a r. r ≡ told a .number)
+  pub count-of : Pinned StreamAnswer ℕ (λ a r. r ≡ counted a)
+  pub read-count : Pinned ReadAnswer ℕ (λ a r. r ≡ readCounted a)
   pub stopped-by : Pinned StreamAnswer Answer (λ a r. r ≡ stoppedBy a)
   pub is-ring-size : Pinned ℕ Bool (λ n r. r ≡ isRingSize n)
   pub is-threshold : Pinned (ℕ × ℕ) Bool (λ i r. r ≡ isThreshold (i .0) (i .1))

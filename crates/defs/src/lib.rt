@@ -20,6 +20,8 @@ pub use ladder::lowest;
 pub use stream::ReadAnswer;
 pub use stream::StreamAnswer;
 pub use stream::StreamAnswers;
+pub use stream::count_of;
+pub use stream::read_count;
 pub use stream::stopped_by;
 pub use wrapping::wrapping_add;
 pub use wrapping::wrapping_sub;

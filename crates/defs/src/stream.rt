@@ -1,7 +1,7 @@
 // What the host's stream answers to a write or a read. The caller tries the stream and hands the
 // answer in (01, "What must take another shape": a boxed stream becomes answers).
 ghost use mathlib.Core.Path.{_≡_};
-ghost use Rattle.defs.specs.Stream.{stoppedBy};
+ghost use Rattle.defs.specs.Stream.{counted, readCounted, stoppedBy};
 use crate::answer::Answer;
 
 pub enum StreamAnswer {
@@ -22,6 +22,26 @@ pub enum ReadAnswer {
 pub struct StreamAnswers {
     pub first: StreamAnswer,
     pub second: StreamAnswer,
+}
+
+// How many bytes an answer takes.
+pub fn count_of(answer: StreamAnswer) -> usize
+    ensures { λ r. ⌜ r ≡ counted answer ⌝ }
+{
+    let StreamAnswer::Count(count) = answer else {
+        return 0;
+    };
+    count
+}
+
+// How many bytes the answer to a read brings.
+pub fn read_count(answer: ReadAnswer) -> usize
+    ensures { λ r. ⌜ r ≡ readCounted answer ⌝ }
+{
+    let ReadAnswer::Count(count) = answer else {
+        return 0;
+    };
+    count
 }
 
 // How a direct call ends by the answer to its first write: done, or number 10 of either kind.

@@ -3,11 +3,11 @@
 // buffer the fifth.
 use crate::frame;
 use crate::ring_calls;
-use connection::ConnState;
-use connection::PendingRxSet;
 use connection::Settings;
-use connection::Timer;
 use connection::VsockConnection;
+use csm::ConnState;
+use csm::PendingRxSet;
+use csm::Timer;
 use defs::Answer;
 use defs::ReadAnswer;
 use defs::StreamAnswer;

@@ -1,13 +1,13 @@
 // Runs a connection over its limits: settings, clocks, header and buffer lengths, ops, counts and
 // storages on both sides of each, in several states. A line for each call: what it was given, 01's
 // number of the answer, and what is left of record, header and buffers. Buffers start as bytes 2e.
-use connection::ConnState;
 use connection::Outcome;
-use connection::PendingRxSet;
 use connection::RawSent;
 use connection::Settings;
-use connection::Timer;
 use connection::VsockConnection;
+use csm::ConnState;
+use csm::PendingRxSet;
+use csm::Timer;
 use defs::Answer;
 use defs::ReadAnswer;
 use defs::StreamAnswer;

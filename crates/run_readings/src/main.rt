@@ -1,9 +1,9 @@
 // Runs 01's readings through the code, a line each: the letter, then what came out.
 use conn_map::ConnMapKey;
-use connection::ConnState;
 use connection::Settings;
-use connection::Timer;
 use connection::VsockConnection;
+use csm::ConnState;
+use csm::Timer;
 use defs::ReadAnswer;
 use defs::StreamAnswer;
 use defs::StreamAnswers;

@@ -1,7 +1,7 @@
 use borrow.Author.Needs.{needs}
+use mathlib.Core.Bool.{_&&_}
 use Rattle.defs.proofs.LadderLaws.{record-answer}
 use Rattle.defs.specs.Limits.{isRingSize}
-use mathlib.Core.Bool.{_&&_}
 use Rattle.connection.specs.Record.{okSettings}
 use Rattle.connection.specs.Open.{openAnswer}
 use Rattle.connection.proofs.open.open_answer.Statement.{statement}

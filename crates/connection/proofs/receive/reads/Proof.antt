@@ -1,11 +1,9 @@
 use borrow.Author.Needs.{needs}
-use Rattle.connection.specs.Receive.{readsOf}
 use Rattle.connection.proofs.receive.reads.Statement.{statement}
 use Rattle.connection.proofs.receive.reads.Tie as tie
 
 returns : tie.Need-returns
-unfolding readsOf
-returns c = rw (c .gives .ensures, c .before .before .before .before .before .credit .ensures)
+returns c = rw (c .turn-reads .ensures, c .before .credit .ensures)
 
 pub reads-spec : {M : Type 1} → statement M
 reads-spec = tie.close (tie.spec (search needs) (search needs) returns)

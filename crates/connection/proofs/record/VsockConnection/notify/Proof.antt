@@ -1,9 +1,9 @@
 -- `notify` meets its contract: refused, seen, or flushed and drained.
 use borrow.Author.Needs.{needs}
 use denote.Ref.{now}
+use mathlib.Core.Path.{refl}
 use Rattle.txbuf.specs.Flush.{FlushLeft}
 use Rattle.defs.specs.Answer.{told}
-use mathlib.Core.Path.{refl}
 use Rattle.connection.specs.Notify.{NotifyIn}
 use Rattle.connection.proofs.NotifyLaws.{is-due, Flushing, flushing, flush-within, notify-refused, notify-seen, notify-kept, notify-done}
 use Rattle.connection.proofs.record.VsockConnection.notify.Statement.{statement}

@@ -4,8 +4,8 @@ use mathlib.Core.Path.{_≡_, sym, ap, _∙_}
 use native.Mathlib.Omega.{arith}
 use lib.ListN.{length-take}
 use denote.Ref.{now}
-use Rattle.connection.specs.Receive.{RecvIn, rowOf, saidBy}
-use Rattle.connection.specs.declared.receive.Row.{Row}
+use Rattle.csm.specs.declared.row.Row.{Row}
+use Rattle.connection.specs.Receive.{RecvIn, saidBy}
 use Rattle.connection.proofs.ReceiveLaws.{Passed, passed, recv-kept, recv-left}
 use Rattle.connection.proofs.record.VsockConnection.recv_pkt.Statement.{statement}
 use Rattle.connection.proofs.record.VsockConnection.recv_pkt.Tie as tie
@@ -17,13 +17,13 @@ given f =
     record { conn = a .self; hdr = now (a .hdr); present = a .present; buf = now (a .buf); clock = a .now-ms; answer = a .answer; read = now (a .read) }
 
 -- what is known once nothing is refused, and the row that is said
-fit : (c : tie.After-row-of) → Passed (given (c .before .before .before .before))
+fit : (c : tie.After-next-row) → Passed (given (c .before .before .before))
 fit c =
-    let t = c .before .before in
+    let t = c .before in
     passed _ (sym (t .before .before .recv-refusal .ensures) ∙ t .enum-told .given .1)
 
-said : (c : tie.After-row-of) → c .row-of .result ≡ saidBy (given (c .before .before .before .before))
-said c = c .row-of .ensures ∙ ap rowOf (c .before .next-step .ensures)
+said : (c : tie.After-next-row) → c .next-row .result ≡ saidBy (given (c .before .before .before))
+said c = c .next-row .ensures
 
 returns : tie.Need-returns
 returns c = recv-kept (given (c .before)) _ (c .before .recv-refusal .ensures) (c .match .keys2)
@@ -49,9 +49,9 @@ returns-2 c =
     let e = y .before .before .before .before .before in
     let h = e .before .before in
     let r = h .before in
-    let t = r .before .before in
+    let t = r .before in
     let f = t .before .before in
     recv-left (given f) _ (e .encode .result) _ _ _ _ _ (f .recv-refusal .ensures) (t .enum-told .given .1) (said r) (h .header .ensures) (e .encode .ensures) (y .copy .ensures) (c .received .ensures)
 
 pub recv-pkt-spec : {M : Type 1} → statement M
-recv-pkt-spec = tie.close (tie.spec (search needs) (λ c. search needs) returns (search needs) (search needs) header-requires (search needs) slice-aggregate-copy (search needs) received-requires (λ c. search needs) (λ c. search needs) returns-2)
+recv-pkt-spec = tie.close (tie.spec (search needs) (λ c. search needs) returns (search needs) header-requires (search needs) slice-aggregate-copy (search needs) received-requires (λ c. search needs) (λ c. search needs) returns-2)

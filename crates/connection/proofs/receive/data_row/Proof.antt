@@ -1,9 +1,0 @@
-use borrow.Author.Needs.{needs}
-use Rattle.connection.proofs.receive.data_row.Statement.{statement}
-use Rattle.connection.proofs.receive.data_row.Tie as tie
-
-returns : tie.Need-returns
-returns c = rw (c .plain .ensures)
-
-pub data-row-spec : {M : Type 1} → statement M
-data-row-spec = tie.close (tie.spec (search needs) returns)

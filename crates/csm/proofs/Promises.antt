@@ -1,0 +1,33 @@
+-- The promises of specs/Promises, each by its law. Assumes nothing.
+use Rattle.defs.proofs.Pins.{by-equation}
+use Rattle.csm.specs.Promises.{SaysWhatWasRead, ShutOpensNothing, EachCallPinned}
+use Rattle.csm.proofs.StateLaws as states
+use Rattle.csm.proofs.TurnLaws as turns
+
+pub says-what-was-read : SaysWhatWasRead
+says-what-was-read = turns.says-what-was-read
+
+pub shut-opens-nothing : ShutOpensNothing
+shut-opens-nothing = states.shut-opens-nothing
+
+pub each-call-pinned : EachCallPinned
+each-call-pinned = record {
+  is-pending = by-equation _ _ _;
+  mark = by-equation _ _ _;
+  left = by-equation _ _ _;
+  row-of = by-equation _ _ _;
+  state-after = by-equation _ _ _;
+  timer-after = by-equation _ _ _;
+  asks = by-equation _ _ _;
+  both-off = by-equation _ _ _;
+  gives = by-equation _ _ _;
+  is-established = by-equation _ _ _;
+  is-local-init = by-equation _ _ _;
+  polls = by-equation _ _ _;
+  shut = by-equation _ _ _;
+  takes = by-equation _ _ _;
+  is-after = by-equation _ _ _;
+  is-due = by-equation _ _ _;
+  turn-reads = by-equation _ _ _;
+  turn-step = by-equation _ _ _;
+}

@@ -1,0 +1,100 @@
+-- Laws of a turn to speak: how much it says, and what it does to the state. Assumes nothing.
+use Prim.Native.Nat.{ℕ, _≤_, zero-le}
+use mathlib.Core.Path.{_≡_, refl, sym, ap, subst, _∙_}
+use mathlib.Core.Bool.{Bool, true, false, not, _&&_}
+use native.Mathlib.Omega.{arith}
+use lib.Dec.{eqb}
+use Rattle.defs.specs.Choice.{when}
+use Rattle.defs.specs.Stream.{readCounted}
+use Rattle.defs.specs.declared.stream.ReadAnswer.{ReadAnswer}
+use Rattle.defs.specs.declared.stream.ReadAnswer.the-variants.{Count, WouldBlock, Failed}
+use Rattle.defs.proofs.ChoiceLaws.{when-true, when-false}
+use Rattle.csm.specs.State.{gives}
+use Rattle.csm.specs.Turn.{readStep, dataStep, updateStep, turnStep, turnReads}
+use Rattle.csm.specs.Row.{rowOf}
+use Rattle.csm.specs.Promises.{SaysWhatWasRead}
+use Rattle.csm.specs.declared.pending.PendingRxSet.{PendingRxSet}
+use Rattle.csm.specs.declared.row.After.{After}
+use Rattle.csm.specs.declared.row.After.the-variants.{Same, Closes}
+use Rattle.csm.specs.declared.state.ConnState.{ConnState}
+use Rattle.csm.specs.declared.turn.RxStep.{RxStep}
+use Rattle.csm.specs.declared.turn.RxStep.the-variants.{Rst, Response, Request, Data, Close, Update, Nothing}
+
+-- ---- how much is said
+
+counts : (end : Bool) (n : ℕ) → rowOf (when end Close (Data n)) .count ≤ n
+unfolding when
+counts true n = zero-le
+counts false n = omega arith
+
+none : (u : Bool) → rowOf (when u Update Nothing) .count ≤ 0
+unfolding when
+none true = zero-le
+none false = zero-le
+
+by-read : (a : ReadAnswer) (u : Bool) → rowOf (readStep a (updateStep u)) .count ≤ readCounted a
+by-read (Count n) u = counts (eqb n 0) n
+by-read WouldBlock u = none u
+by-read Failed u = zero-le
+
+by-step : (r s q w up blocked present u : Bool) (a : ReadAnswer)
+    → rowOf (when r Rst (when s Response (when q Request (when w (dataStep up blocked present (readStep a (updateStep u))) (updateStep u))))) .count
+    ≤ when (not r && not s && not q && w && up && not blocked && present) (readCounted a) 0
+unfolding when
+by-step true s q w up blocked present u a = zero-le
+by-step false true q w up blocked present u a = zero-le
+by-step false false true w up blocked present u a = zero-le
+by-step false false false false up blocked present u a = none u
+by-step false false false true false blocked present u a = zero-le
+by-step false false false true true true present u a = zero-le
+by-step false false false true true false false u a = zero-le
+by-step false false false true true false true u a = by-read a u
+
+pub says-what-was-read : SaysWhatWasRead
+unfolding turnStep turnReads
+says-what-was-read p s blocked present a = by-step (p .rst) (p .response) (p .request) (p .rw) (gives s) blocked present (p .«credit_update») a
+
+-- without a buffer a turn does not read
+pub absent-reads-not : (p : PendingRxSet) (s : ConnState) (blocked present : Bool) → present ≡ false → turnReads p s blocked present ≡ false
+unfolding turnReads
+absent-reads-not p s blocked present e = rw e (and-false (not (p .rst) && not (p .response) && not (p .request) && p .rw && gives s && not blocked))
+  where
+    and-false : (b : Bool) → b && false ≡ false
+    and-false true = refl
+    and-false false = refl
+
+-- ---- what becomes of the state
+
+-- only a RESPONSE opens
+pub data NotOpening : After → Type 0 where
+  same-state : NotOpening Same
+  closes-state : NotOpening Closes
+
+no-opening : (request w up blocked present u : Bool) (a : ReadAnswer)
+    → NotOpening (rowOf (when request Request (when w (dataStep up blocked present (readStep a (updateStep u))) (updateStep u))) .after)
+unfolding when
+no-opening true w up blocked present u a = same-state
+no-opening false false up blocked present true a = same-state
+no-opening false false up blocked present false a = same-state
+no-opening false true false blocked present u a = same-state
+no-opening false true true true present u a = same-state
+no-opening false true true false false u a = same-state
+no-opening false true true false true u (Count n) = by-count (eqb n 0)
+  where
+    by-count : (end : Bool) → NotOpening (rowOf (when end Close (Data n)) .after)
+    by-count true = closes-state
+    by-count false = same-state
+no-opening false true true false true true WouldBlock = same-state
+no-opening false true true false true false WouldBlock = same-state
+no-opening false true true false true u Failed = same-state
+
+pub reset-stays : (p : PendingRxSet) (s : ConnState) (blocked present : Bool) (a : ReadAnswer) → p .rst ≡ true → rowOf (turnStep p s blocked present a) .after ≡ Same
+unfolding turnStep
+reset-stays p s blocked present a t = ap (λ (x : RxStep). rowOf x .after) (when-true Rst _ _ t)
+
+pub response-alone-opens : (p : PendingRxSet) (s : ConnState) (blocked present : Bool) (a : ReadAnswer) → p .rst ≡ false → p .response ≡ false
+    → NotOpening (rowOf (turnStep p s blocked present a) .after)
+unfolding turnStep
+response-alone-opens p s blocked present a t u =
+    subst (λ (x : RxStep). NotOpening (rowOf x .after)) (sym (when-false Rst _ _ t ∙ when-false Response _ _ u))
+    (no-opening (p .request) (p .rw) (gives s) blocked present (p .«credit_update») a)

@@ -1,0 +1,6 @@
+pub mod State
+pub mod Pending
+pub mod Timer
+pub mod Turn
+pub mod Row
+pub mod Promises

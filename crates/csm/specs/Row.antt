@@ -1,0 +1,60 @@
+-- The table of the steps (01, `recv_pkt`), and what a row leaves of state and timer. Assumes nothing.
+use Prim.Native.Nat.{ℕ, _+_}
+use mathlib.Core.Bool.{Bool, true, false}
+use Rattle.defs.specs.declared.answer.Answer.{Answer}
+use Rattle.defs.specs.declared.answer.Answer.the-variants.{Done, NoData, PktBufMissing}
+use Rattle.packet.specs.Uapi.{opRequest, opResponse, opRst, opShutdown, opRw, opCreditUpdate, opCreditRequest, flagShutdownRcv, flagShutdownSend}
+use Rattle.csm.specs.declared.timer.Timer.{Timer}
+use Rattle.csm.specs.declared.state.ConnState.{ConnState}
+use Rattle.csm.specs.declared.state.ConnState.the-variants.{Established, LocalClosed}
+use Rattle.csm.specs.declared.turn.RxStep.{RxStep}
+use Rattle.csm.specs.declared.turn.RxStep.the-variants.{Rst, Response, Request, Refuse, AskCredit, NoBuffer, Data, Close, Fail, Update, Nothing}
+use Rattle.csm.specs.declared.row.After.{After}
+use Rattle.csm.specs.declared.row.After.the-variants.{Same, Opens, Closes}
+use Rattle.csm.specs.declared.row.Arms.{Arms}
+use Rattle.csm.specs.declared.row.Arms.the-variants.{Keep, Wait, Linger}
+use Rattle.csm.specs.declared.row.Row.{Row}
+
+abbrev is : Answer → ℕ → ℕ → ℕ → Bool → Bool → After → Arms → Row
+is answer op flags count tells ends after arms = record {
+  answer = answer;
+  op = op;
+  flags = flags;
+  count = count;
+  tells = tells;
+  ends = ends;
+  after = after;
+  arms = arms;
+}
+
+-- a row that carries no data and leaves state and timer
+abbrev pub plainRow : Answer → ℕ → Bool → Bool → Row
+plainRow answer op tells ends = is answer op 0 0 tells ends Same Keep
+
+-- one that moves state or timer, and tells the guest nothing
+abbrev pub turningRow : ℕ → After → Arms → Row
+turningRow op after arms = is Done op 0 0 false false after arms
+
+-- step, then answer, op, flags, len, whether last-told is updated, whether a pending update ends, state, timer
+abbrev pub rowOf : RxStep → Row
+rowOf Rst = is Done opRst 0 0 false false Same Keep
+rowOf Response = is Done opResponse 0 0 false false Opens Keep
+rowOf Request = is Done opRequest 0 0 false false Same Wait
+rowOf Refuse = is Done opRst 0 0 false false Same Keep
+rowOf AskCredit = is Done opCreditRequest 0 0 true false Same Keep
+rowOf NoBuffer = is PktBufMissing 0 0 0 false false Same Keep
+rowOf (Data n) = is Done opRw 0 n true false Same Keep
+rowOf Close = is Done opShutdown (flagShutdownRcv + flagShutdownSend) 0 true false Closes Linger
+rowOf Fail = is Done opRst 0 0 true false Same Keep
+rowOf Update = is Done opCreditUpdate 0 0 true true Same Keep
+rowOf Nothing = is NoData 0 0 0 false true Same Keep
+
+abbrev pub afterwards : After → ConnState → ConnState
+afterwards Same state = state
+afterwards Opens state = Established
+afterwards Closes state = LocalClosed
+
+abbrev pub armed : Arms → Timer → Timer → Timer → Timer
+armed Keep expiry wait linger = expiry
+armed Wait expiry wait linger = wait
+armed Linger expiry wait linger = linger

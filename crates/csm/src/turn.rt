@@ -1,0 +1,105 @@
+// What is said at a turn to speak (01, `recv_pkt`), by what is pending, the state, the guest's
+// credit, its buffer and the stream's answer.
+ghost use mathlib.Core.Path.{_≡_};
+ghost use Rattle.csm.specs.Turn.{readStep, dataStep, updateStep, rxStep, turnStep, turnReads};
+use crate::pending::PendingRxSet;
+use crate::state::ConnState;
+use crate::state::gives;
+use defs::ReadAnswer;
+
+pub enum RxStep {
+    Rst,
+    Response,
+    Request,
+    // Data is due in a state that gives none.
+    Refuse,
+    // Data is due, and the guest has no room.
+    AskCredit,
+    // Data is due, and no buffer is there to read into.
+    NoBuffer,
+    Data(usize),
+    // The stream has ended.
+    Close,
+    // The stream failed.
+    Fail,
+    Update,
+    Nothing,
+}
+
+// Whether the turn reads from the stream. The guest is `blocked` where it has no credit.
+pub fn turn_reads(pending: PendingRxSet, state: ConnState, blocked: bool, present: bool) -> bool
+    ensures { λ r. ⌜ r ≡ turnReads pending state blocked present ⌝ }
+{
+    let p = pending;
+    !p.rst & !p.response & !p.request & p.rw & gives(state) & !blocked & present
+}
+
+pub fn turn_step(
+    pending: PendingRxSet,
+    state: ConnState,
+    blocked: bool,
+    present: bool,
+    answer: ReadAnswer,
+) -> RxStep
+    ensures { λ r. ⌜ r ≡ turnStep pending state blocked present answer ⌝ }
+{
+    let update = update_step(pending.credit_update);
+    let read = read_step(answer, update);
+    let some = data_step(gives(state), blocked, present, read);
+    rx_step(pending, some, update)
+}
+
+// The first that is pending of Rst, Response, Request, Rw and CreditUpdate.
+fn rx_step(pending: PendingRxSet, some: RxStep, update: RxStep) -> RxStep
+    ensures { λ r. ⌜ r ≡ rxStep pending some update ⌝ }
+{
+    if pending.rst {
+        return RxStep::Rst;
+    }
+    if pending.response {
+        return RxStep::Response;
+    }
+    if pending.request {
+        return RxStep::Request;
+    }
+    if pending.rw { some } else { update }
+}
+
+// Credit before buffer: a guest without room is asked for it, whether there is a buffer or not.
+fn data_step(gives: bool, blocked: bool, present: bool, read: RxStep) -> RxStep
+    ensures { λ r. ⌜ r ≡ dataStep gives blocked present read ⌝ }
+{
+    if gives {
+        if blocked {
+            return RxStep::AskCredit;
+        }
+        if present { read } else { RxStep::NoBuffer }
+    } else {
+        RxStep::Refuse
+    }
+}
+
+// A read of no bytes says that the stream has ended.
+fn read_step(answer: ReadAnswer, update: RxStep) -> RxStep
+    ensures { λ r. ⌜ r ≡ readStep answer update ⌝ }
+{
+    match answer {
+        ReadAnswer::Count(count) => if count == 0 {
+            RxStep::Close
+        } else {
+            RxStep::Data(count)
+        },
+        ReadAnswer::WouldBlock => update,
+        ReadAnswer::Failed => RxStep::Fail,
+    }
+}
+
+fn update_step(update: bool) -> RxStep
+    ensures { λ r. ⌜ r ≡ updateStep update ⌝ }
+{
+    if update {
+        RxStep::Update
+    } else {
+        RxStep::Nothing
+    }
+}
