@@ -303,7 +303,7 @@ fn add_count(a: u64, answer: StreamAnswer) -> u64 {
 fn listen(trip: Trip) -> Trip {
     let conn = trip.conn;
     let due = conn.has_pending_rx();
-    if due.yes {
+    if due.holds {
         return hear(trip);
     }
     trip

@@ -18,7 +18,4 @@ each-call-pinned = record {
   key-of = by-equation _ _ _;
   is-sound = by-equation _ _ _;
   has-room = by-equation _ _ _;
-  record-answer = by-equation _ _ _;
-  flag-of = by-equation _ _ _;
-  len-of = by-equation _ _ _;
 }

@@ -1,35 +1,9 @@
--- The calls that only look at a queue, the same for both queues (01, "What comes back"). Assumes nothing.
-use Prim.Native.Nat.{ℕ}
-use mathlib.Core.Path.{_≡_}
+-- A look at the front, the same for both queues (01, "The two queues"). Assumes nothing.
 use mathlib.Core.Bool.{Bool, true, false}
 use mathlib.Core.List.{List, [], _∷_}
 use Rattle.defs.specs.Answer.{Told, told, whenDone}
 use Rattle.defs.specs.Ladder.{recordAnswer}
 use Rattle.defs.specs.declared.answer.Answer.the-variants.{Done}
-
-pub record FlagLeft : Type 0 where
-  pub answer : Told
-  pub holds : Bool
-
--- a yes or no about a sound queue
-unfoldable pub flagOf : Bool → Bool → FlagLeft
-flagOf sound value = record { answer = told (recordAnswer sound); holds = whenDone (recordAnswer sound) value false }
-
--- THE STATEMENT of a call that tells a yes or no
-abbrev pub FlagSays : Bool → Bool → FlagLeft → Type 0
-FlagSays sound value left = left ≡ flagOf sound value
-
-pub record LenLeft : Type 0 where
-  pub answer : Told
-  pub len : ℕ
-
--- a count of a sound queue
-unfoldable pub lenOf : Bool → ℕ → LenLeft
-lenOf sound value = record { answer = told (recordAnswer sound); len = whenDone (recordAnswer sound) value 0 }
-
--- THE STATEMENT of a call that tells a count
-abbrev pub LenSays : Bool → ℕ → LenLeft → Type 0
-LenSays sound value left = left ≡ lenOf sound value
 
 pub record PeekLeft (A : Type 0) : Type 0 where
   pub answer : Told

@@ -4,7 +4,6 @@ use mathlib.Core.Path.{_≡_}
 use mathlib.Core.Bool.{Bool, true}
 use mathlib.Core.List.{List}
 use lib.ListN.{length, getD}
-use Rattle.defs.specs.Ladder.{recordAnswer}
 use Rattle.defs.specs.Limits.{isSlotCount}
 use Rattle.defs.specs.Pinned.{Pinned}
 use Rattle.defs.specs.Promises.{Exactly}
@@ -13,8 +12,6 @@ use Rattle.conn_map.specs.Key.{keyOf}
 use Rattle.conn_map.specs.Edges.{lastPair}
 use Rattle.conn_map.specs.Table.{usedAt, soundTable}
 use Rattle.conn_map.specs.Places.{hasRoom}
-use Rattle.conn_map.specs.Look.{FlagLeft, FlagSays, LenLeft, LenSays}
-use Rattle.defs.specs.declared.answer.Answer.{Answer}
 use Rattle.conn_map.specs.declared.key.ConnMapKey.{ConnMapKey}
 
 -- 01: no two used slots have the same ports
@@ -51,6 +48,3 @@ pub record EachCallPinned : Type 0 where
   pub key-of : Pinned ℕ ConnMapKey (λ ports r. r ≡ keyOf ports)
   pub is-sound : Pinned TableIn Bool (λ i r. r ≡ soundTable (i .ports) (i .used) (i .marks))
   pub has-room : Pinned RoomIn Bool (λ i r. r ≡ hasRoom (i .synced) (i .len) (i .limit))
-  pub record-answer : Pinned Bool Answer (λ sound r. r ≡ recordAnswer sound)
-  pub flag-of : Pinned (Bool × Bool) FlagLeft (λ i left. FlagSays (i .0) (i .1) left)
-  pub len-of : Pinned (Bool × ℕ) LenLeft (λ i left. LenSays (i .0) (i .1) left)

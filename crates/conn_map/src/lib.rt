@@ -2,16 +2,10 @@
 // lent parallel slices of numbers in slot order, so that a walk over it has one order. Beside it
 // stands what the two queues share.
 mod key;
-mod look;
 mod room;
 mod table;
 
 pub use key::ConnMapKey;
 pub use key::key_of;
-pub use look::Flag;
-pub use look::Len;
-pub use look::flag_of;
-pub use look::len_of;
-pub use look::record_answer;
 pub use room::has_room;
 pub use table::is_sound;

@@ -11,7 +11,7 @@ use lib.ListN.{length, length-append}
 use borrow.Author.Tests.{eqb-true, eqb-false, leb-true, not-true, not-false}
 use Rattle.defs.specs.Choice.{when}
 use Rattle.defs.specs.Answer.{told, isDone, whenDone}
-use Rattle.defs.specs.Stream.{counted}
+use Rattle.defs.specs.Stream.{counted, failed}
 use Rattle.defs.specs.Ladder.{doorOf, lateOf, lowestOf, recordAnswer}
 use Rattle.defs.specs.declared.answer.Answer.{Answer}
 use Rattle.defs.specs.declared.answer.Answer.the-variants.{Done}
@@ -20,16 +20,16 @@ use Rattle.defs.specs.declared.stream.StreamAnswer.the-variants.{Count, WouldBl
 use Rattle.defs.proofs.Basics.{never, both, true-or-false}
 use Rattle.defs.proofs.ChoiceLaws.{when-true, when-false, when-same}
 use Rattle.defs.proofs.AnswerLaws.{is-done, when-done, when-not-done, number-zero}
-use Rattle.defs.proofs.LadderLaws.{lowest-passed}
+use Rattle.defs.proofs.LadderLaws.{lowest-passed, lowest-end}
 use Rattle.txbuf.specs.Record.{usedOf, soundOf, held}
 use Rattle.txbuf.specs.Push.{pushDone}
 use Rattle.txbuf.specs.Flush.{FlushIn, endsBy, flushCount, flushOver, flushAnswer}
 use Rattle.txbuf.specs.declared.record.TxBuf.{TxBuf}
 use Rattle.txbuf.proofs.RecordLaws.{held-length}
-use Rattle.txbuf.proofs.FlushLaws.{lowest-end, flush-progresses, flushed-told}
+use Rattle.txbuf.proofs.FlushLaws.{flush-progresses, flushed-told}
 use Rattle.connection.specs.Record.{quiet}
 use Rattle.connection.specs.Moves.{Account, account, Numbers, Moved}
-use Rattle.connection.specs.Send.{failed, carried, SendIn, SendLeft, pktOf, sendPlan, sendAnswer, sendKills, sendCarried, sendDone, sendKept, sendOf}
+use Rattle.connection.specs.Send.{carried, SendIn, SendLeft, pktOf, sendPlan, sendAnswer, sendKills, sendCarried, sendDone, sendKept, sendOf}
 use Rattle.connection.specs.Notify.{absorbed, NotifyIn, NotifyLeft, due, flushIn, flushed, notifyAnswer, notifyDone, notifyKept, notifyOf}
 use Rattle.connection.specs.Runs.{Event, sends, receives, notifies, kills, looks, before, after, Made, Steps, none, then, isOut, outs, Pushless, Drains}
 use Rattle.connection.specs.declared.record.VsockConnection.{VsockConnection}

@@ -3,31 +3,33 @@
 use Prim.Native.Nat.{ℕ}
 use mathlib.Core.Path.{_≡_, refl, sym, ap, subst, _∙_}
 use mathlib.Core.Logic.{_⊎_, inl, inr, ⊎-elim}
-use mathlib.Core.Bool.{Bool, true, false, _&&_, _||_}
+use mathlib.Core.Bool.{Bool, true, false, _&&_}
 use mathlib.Core.List.{List}
 use lib.Dec.{eqb}
 use Rattle.defs.specs.Choice.{when}
 use Rattle.defs.specs.Answer.{isDone, whenDone}
+use Rattle.defs.specs.Stream.{failed}
 use Rattle.defs.proofs.Basics.{never, both, true-or-false}
-use Rattle.defs.proofs.ChoiceLaws.{when-true, when-false}
+use Rattle.defs.proofs.ChoiceLaws.{when-holds}
 use Rattle.packet.specs.Uapi.{opResponse, opShutdown, opRw, opCreditRequest}
 use Rattle.packet.specs.declared.hdr.VsockPacketHdr.{VsockPacketHdr}
 use Rattle.txbuf.specs.declared.record.TxBuf.{TxBuf}
-use Rattle.csm.specs.State.{isLocalInit, shutBy, bothOff}
+use Rattle.csm.specs.State.{isLocalInit, shutBy, bothOff, recvOff, sendOff, Grown, grown, closed, dead}
 use Rattle.csm.specs.Row.{afterwards}
 use Rattle.csm.specs.declared.row.After.{After}
 use Rattle.csm.specs.declared.row.After.the-variants.{Same, Closes}
 use Rattle.csm.specs.declared.pending.PendingRxSet.{PendingRxSet}
 use Rattle.csm.specs.declared.state.ConnState.{ConnState}
 use Rattle.csm.specs.declared.state.ConnState.the-variants.{LocalInit, PeerInit, Established, LocalClosed, PeerClosed, Killed}
+use Rattle.csm.proofs.Promises.{shut-only-grows}
 use Rattle.csm.proofs.TurnLaws.{NotOpening, same-state, closes-state, reset-stays, response-alone-opens}
 use Rattle.connection.specs.Record.{quiet, creditOf, withState, killedOf}
 use Rattle.connection.specs.Open.{Opening, ConnLeft, freshOf, zeroConn, openAnswer, peerInitOf, localInitOf}
 use Rattle.connection.specs.Look.{lookAnswer, killOf}
-use Rattle.connection.specs.Receive.{spokenOf, receivedOf, RecvIn, refusalOf, saidBy, recvDone, recvKept, recvOf}
-use Rattle.connection.specs.Send.{failed, recvOff, sendOff, heardOf, movedOf, updatedOf, onResponse, onShutdown, onCreditRequest, onData, ruleOf, SendIn, pktOf, sendPlan, sendAnswer, sendKills, sendCarried, sendDone, sendKept, sendOf}
-use Rattle.connection.specs.Notify.{seenOf, settledOf, drainedOf, NotifyIn, due, flushed, notifyAnswer, notifyDone, notifyKept, notifyOf}
-use Rattle.connection.specs.Runs.{Event, sends, receives, notifies, kills, looks, after, Made, Steps, none, then, Opens, Grown, grown, closed, dead, FlagsOnlyGrow}
+use Rattle.connection.specs.Receive.{spokenOf, receivedOf, RecvIn, RecvLeft, refusalOf, saidBy, recvDone, recvKept, recvOf}
+use Rattle.connection.specs.Send.{SendLeft, heardOf, movedOf, updatedOf, onResponse, onShutdown, onCreditRequest, onData, ruleOf, SendIn, pktOf, sendPlan, sendAnswer, sendKills, sendCarried, sendDone, sendKept, sendOf}
+use Rattle.connection.specs.Notify.{NotifyLeft, seenOf, settledOf, drainedOf, NotifyIn, due, flushed, notifyAnswer, notifyDone, notifyKept, notifyOf}
+use Rattle.connection.specs.Runs.{Event, sends, receives, notifies, kills, looks, after, Made, Steps, none, then, Opens, FlagsOnlyGrow}
 use Rattle.connection.specs.declared.record.VsockConnection.{VsockConnection}
 use Rattle.connection.specs.declared.send.SendPlan.{SendPlan}
 
@@ -39,14 +41,11 @@ data Follows (s : ConnState) : ConnState → Type 0 where
   opens : isLocalInit s ≡ true → Follows s Established
   shuts : (a b : Bool) → Follows s (shutBy s a b)
 
-or-left : (a b : Bool) → a ≡ true → a || b ≡ true
-or-left a b e = rw e
-
 grows : (r q : Bool) (s d : ConnState) → Follows s d → s ≡ PeerClosed r q → Grown r q d
 grows r q s d stays e = rw e (grown r q (λ x. x) (λ x. x))
 grows r q s d dies e = dead
 grows r q s d (opens t) e = absurd (never (sym (ap isLocalInit e) ∙ t))
-grows r q s d (shuts a b) e = rw e (grown (r || a) (q || b) (or-left r a) (or-left q b))
+grows r q s d (shuts a b) e = rw e (shut-only-grows r q a b)
 
 -- where a RESPONSE may be pending
 abbrev Early : ConnState → Type 0
@@ -67,11 +66,7 @@ same : (c : VsockConnection) → Next c c
 same c = record { response = refl; state = stays }
 
 choose : (c x y : VsockConnection) (b : Bool) → (b ≡ true → Next c x) → Next c y → Next c (when b x y)
-choose c x y b p q =
-    ⊎-elim
-    (λ (t : b ≡ true). rw (when-true x y _ t) (p t))
-    (λ (t : b ≡ false). rw (when-false x y _ t) q)
-    (true-or-false b)
+choose c x y b p q = when-holds (Next c) b x y p (λ t. q)
 
 -- ---- packets
 
@@ -117,10 +112,9 @@ heard c d pkt n = record { response = n .response; state = n .state }
 by-packet : (i : SendIn) → Next (i .conn) (sendOf i .conn)
 unfolding sendOf sendDone sendKept whenDone
 by-packet i =
-    ⊎-elim
-    (λ (t : isDone (sendAnswer i) ≡ true). rw (when-true (sendDone i) (sendKept i) _ t) (heard (i .conn) _ (pktOf i) (by-rule (heardOf (i .conn) (pktOf i)) (pktOf i) (sendPlan i) (sendKills i) (sendCarried i .ring) (i .clock))))
-    (λ (t : isDone (sendAnswer i) ≡ false). rw (when-false (sendDone i) (sendKept i) _ t) (same (i .conn)))
-    (true-or-false (isDone (sendAnswer i)))
+    when-holds (λ (o : SendLeft). Next (i .conn) (o .conn)) (isDone (sendAnswer i)) (sendDone i) (sendKept i)
+    (λ t. heard (i .conn) _ (pktOf i) (by-rule (heardOf (i .conn) (pktOf i)) (pktOf i) (sendPlan i) (sendKills i) (sendCarried i .ring) (i .clock)))
+    (λ t. same (i .conn))
 
 -- ---- events and kills
 
@@ -140,13 +134,11 @@ by-drain c ring n fails = settled c _ (choose c _ _ fails (λ t. killed-moved c 
 by-event : (i : NotifyIn) → Next (i .conn) (notifyOf i .conn)
 unfolding notifyOf notifyDone notifyKept whenDone
 by-event i =
-    ⊎-elim
-    (λ (t : isDone (notifyAnswer i) ≡ true).
-    rw (when-true (notifyDone i) (notifyKept i) _ t)
-    (choose (i .conn) _ _ (due i) (λ u. seen (i .conn) _ (i .readable) (by-drain (seenOf (i .conn) (i .readable)) (flushed i .ring) (flushed i .count) (failed (i .answers .first))))
-    (seen (i .conn) _ (i .readable) (same _))))
-    (λ (t : isDone (notifyAnswer i) ≡ false). rw (when-false (notifyDone i) (notifyKept i) _ t) (same (i .conn)))
-    (true-or-false (isDone (notifyAnswer i)))
+    when-holds (λ (o : NotifyLeft). Next (i .conn) (o .conn)) (isDone (notifyAnswer i)) (notifyDone i) (notifyKept i)
+    (λ t.
+    choose (i .conn) _ _ (due i) (λ u. seen (i .conn) _ (i .readable) (by-drain (seenOf (i .conn) (i .readable)) (flushed i .ring) (flushed i .count) (failed (i .answers .first))))
+    (seen (i .conn) _ (i .readable) (same _)))
+    (λ t. same (i .conn))
 
 by-kill : (c : VsockConnection) → Next c (killOf c .conn)
 unfolding killOf killedOf withState whenDone
@@ -215,10 +207,7 @@ spoke i =
 by-receive : (i : RecvIn) → Turned (i .conn) (recvOf i .conn)
 unfolding recvOf recvKept whenDone
 by-receive i =
-    ⊎-elim
-    (λ (t : isDone (refusalOf i) ≡ true). rw (when-true (recvDone i) (recvKept i) _ t) (spoke i))
-    (λ (t : isDone (refusalOf i) ≡ false). rw (when-false (recvDone i) (recvKept i) _ t) (turned _ _ (same (i .conn))))
-    (true-or-false (isDone (refusalOf i)))
+    when-holds (λ (o : RecvLeft). Turned (i .conn) (o .conn)) (isDone (refusalOf i)) (recvDone i) (recvKept i) (λ t. spoke i) (λ t. turned _ _ (same (i .conn)))
 
 -- ---- every run
 
@@ -238,11 +227,7 @@ unfolding freshOf
 fresh-fits o state p f = f
 
 fit-either : (b : Bool) (x y : VsockConnection) → Fit x → Fit y → Fit (when b x y)
-fit-either b x y p q =
-    ⊎-elim
-    (λ (t : b ≡ true). subst Fit (sym (when-true x y _ t)) p)
-    (λ (t : b ≡ false). subst Fit (sym (when-false x y _ t)) q)
-    (true-or-false b)
+fit-either b x y p q = when-holds Fit b x y (λ t. p) (λ t. q)
 
 opening-fits : (guest : Bool) (o : Opening) (left : ConnLeft) → Opens guest o left → Fit (left .conn)
 unfolding peerInitOf localInitOf zeroConn whenDone

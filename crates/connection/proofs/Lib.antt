@@ -5,6 +5,7 @@ pub mod RecordLaws
 pub mod ReceiveLaws
 pub mod SendLaws
 pub mod NotifyLaws
+pub mod AnswerLaws
 pub mod OfferLaws
 pub mod MovesLaws
 pub mod RunLaws

@@ -15,7 +15,7 @@ use Rattle.defs.specs.Answer.{told, isDone, whenDone}
 use Rattle.defs.specs.Wrapping.{wadd}
 use Rattle.defs.specs.declared.answer.Answer.the-variants.{Done}
 use Rattle.defs.proofs.Basics.{both, true-or-false}
-use Rattle.defs.proofs.ChoiceLaws.{when-true, when-false}
+use Rattle.defs.proofs.ChoiceLaws.{when-true, when-false, when-holds}
 use Rattle.defs.proofs.AnswerLaws.{is-done, when-done, when-not-done}
 use Rattle.packet.specs.Uapi.{opResponse, opShutdown, opRw, opCreditRequest}
 use Rattle.packet.specs.declared.hdr.VsockPacketHdr.{VsockPacketHdr}
@@ -44,9 +44,7 @@ use Rattle.connection.proofs.SendLaws.{Passed, passed, carries}
 
 -- whichever way it goes, the same account
 either : (b : Bool) (x y : VsockConnection) (v : Account) → account x ≡ v → account y ≡ v → account (when b x y) ≡ v
-unfolding when
-either true x y v e f = e
-either false x y v e f = f
+either b x y v e f = when-holds (λ (c : VsockConnection). account c ≡ v) b x y (λ t. e) (λ t. f)
 
 abbrev countedOn : Account → TxBuf → ℕ → Account
 countedOn a ring n = record { settings = a .settings; ring = ring; «fwd_cnt» = wadd (a .«fwd_cnt») n }
@@ -291,15 +289,11 @@ kept-moves i n k =
     }
 
 send-of-moves : (i : SendIn) → Numbers (i .conn) → SendMoved i (sendOf i)
-unfolding sendOf
+unfolding sendOf whenDone
 send-of-moves i n =
-    ⊎-elim
-    (λ (t : isDone (sendAnswer i) ≡ true).
-    let d = is-done _ t in
-    subst (SendMoved i) (sym (when-done (sendAnswer i) (sendDone i) (sendKept i) d))
-    (⊎-elim (data-moves i n d) (no-data-moves i n d) (true-or-false (sendPlan i .goes))))
-    (λ (t : isDone (sendAnswer i) ≡ false). subst (SendMoved i) (sym (when-not-done (sendAnswer i) (sendDone i) (sendKept i) t)) (kept-moves i n t))
-    (true-or-false (isDone (sendAnswer i)))
+    when-holds (SendMoved i) (isDone (sendAnswer i)) (sendDone i) (sendKept i)
+    (λ t. let d = is-done _ t in ⊎-elim (data-moves i n d) (no-data-moves i n d) (true-or-false (sendPlan i .goes)))
+    (kept-moves i n)
 
 pub send-moves : SendMoves
 send-moves i left n says = subst (SendMoved i) (sym says) (send-of-moves i n)
@@ -358,15 +352,11 @@ unfolding notifyTaken notifyKept
 refused-moves i n k = none-taken i (notifyKept i) n (when-not-done _ _ _ k) refl
 
 notify-of-moves : (i : NotifyIn) → Numbers (i .conn) → NotifyMoved i (notifyOf i)
-unfolding notifyOf
+unfolding notifyOf whenDone
 notify-of-moves i n =
-    ⊎-elim
-    (λ (t : isDone (notifyAnswer i) ≡ true).
-    let d = is-done _ t in
-    subst (NotifyMoved i) (sym (when-done (notifyAnswer i) (notifyDone i) (notifyKept i) d))
-    (⊎-elim (flush-moves i n d) (seen-moves i n d) (true-or-false (due i))))
-    (λ (t : isDone (notifyAnswer i) ≡ false). subst (NotifyMoved i) (sym (when-not-done (notifyAnswer i) (notifyDone i) (notifyKept i) t)) (refused-moves i n t))
-    (true-or-false (isDone (notifyAnswer i)))
+    when-holds (NotifyMoved i) (isDone (notifyAnswer i)) (notifyDone i) (notifyKept i)
+    (λ t. let d = is-done _ t in ⊎-elim (flush-moves i n d) (seen-moves i n d) (true-or-false (due i)))
+    (refused-moves i n)
 
 pub notify-moves : NotifyMoves
 notify-moves i left n says = subst (NotifyMoved i) (sym says) (notify-of-moves i n)

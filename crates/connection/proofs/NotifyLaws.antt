@@ -2,28 +2,29 @@
 use Prim.Native.Nat.{ℕ, _≤_}
 use mathlib.Core.Path.{_≡_, sym, ap, _∙_}
 use mathlib.Core.Logic.{⊎-elim}
-use mathlib.Core.Bool.{Bool, true, false, not, _&&_}
+use mathlib.Core.Bool.{Bool, true, false, _&&_}
 use mathlib.Core.List.{List}
 use lib.ListN.{length}
 use native.Mathlib.Omega.{arith}
 use borrow.Author.Tests.{not-false}
 use Rattle.defs.specs.Choice.{when}
+use Rattle.defs.specs.Stream.{failed}
 use Rattle.defs.specs.Answer.{told, isDone}
 use Rattle.defs.specs.Limits.{maxRing}
-use Rattle.defs.specs.Ladder.{doorOf, recordAnswer}
+use Rattle.defs.specs.Ladder.{recordAnswer}
 use Rattle.defs.specs.declared.answer.Answer.{Answer}
 use Rattle.defs.specs.declared.answer.Answer.the-variants.{Done}
 use Rattle.defs.proofs.Basics.{never, true-or-false}
 use Rattle.defs.proofs.ChoiceLaws.{when-true, when-false}
 use Rattle.defs.proofs.AnswerLaws.{NotDone, not-done, is-done, when-done, when-not-done}
-use Rattle.defs.proofs.LadderLaws.{lowest-kept, lowest-on, door-passed, record-answer}
+use Rattle.defs.proofs.LadderLaws.{lowest-kept, lowest-on, door-passed}
 use Rattle.txbuf.specs.Flush.{FlushLeft, FlushSays, flushAnswer}
 use Rattle.txbuf.proofs.FlushLaws.{flush-answer, flush-kept, count-small}
 use Rattle.csm.specs.State.{bothOff}
 use Rattle.csm.specs.Pending.{marked}
 use Rattle.csm.specs.declared.pending.PendingRxSet.{PendingRxSet}
 use Rattle.connection.specs.Record.{soundOver, quiet, withState}
-use Rattle.connection.specs.Send.{failed, updatedOf}
+use Rattle.connection.specs.Send.{updatedOf}
 use Rattle.connection.specs.Notify.{seenOf, absorbed, settledOf, drainedOf, notifyDoor, NotifyIn, NotifyLeft, due, flushIn, notifyAnswer, notifyDone, notifyKept, notifyOf}
 use Rattle.connection.specs.declared.record.VsockConnection.{VsockConnection}
 use Rattle.connection.proofs.RecordLaws.{sound-over-says}
@@ -45,17 +46,13 @@ settled-updated c r off empty e f t g =
 
 -- ---- the call's answer
 
-pub notify-door : (c : VsockConnection) (storage : ℕ) (a : Answer) (s : Bool) → a ≡ doorOf (not s) false false false → s ≡ soundOver c storage → a ≡ notifyDoor c storage
+pub notify-door : (c : VsockConnection) (storage : ℕ) (a : Answer) (s : Bool) → a ≡ recordAnswer s → s ≡ soundOver c storage → a ≡ notifyDoor c storage
 unfolding notifyDoor
-notify-door c storage a s e f = record-answer a s _ e f
+notify-door c storage a s e f = e ∙ ap recordAnswer f
 
 -- the door, as the call finds it
 abbrev pub Door : NotifyIn → Answer → Type 0
 Door i a = a ≡ notifyDoor (i .conn) (length (i .store))
-
--- whether a flush is due, as the code tests it
-pub is-due : (i : NotifyIn) (q t : Bool) → q ≡ quiet (i .conn) → i .writable && not q ≡ t → due i ≡ t
-is-due i q t e f = rw e at f
 
 past-door : (i : NotifyIn) (a : Answer) → Door i a → a ≡ Done → notifyAnswer i ≡ when (due i) (absorbed (flushAnswer (flushIn i))) Done
 unfolding notifyAnswer

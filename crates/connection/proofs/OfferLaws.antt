@@ -27,7 +27,7 @@ use Rattle.txbuf.proofs.FlushLaws.{count-small, flush-takes-oldest, pieces-are-
 use Rattle.connection.specs.Record.{soundOver, quiet}
 use Rattle.connection.specs.Send.{goesOf, writesOf, planOf, sendDoorOf, sendDoor, sendDoorIn, SendIn, pktOf, sendPlan, sendAnswer, payload, sendDone, sendKept, sendOf}
 use Rattle.connection.specs.Receive.{recvDoor, readsOf, askedOf, recvRefusal, refusalOf, saidBy}
-use Rattle.connection.specs.Notify.{notifyDoor, NotifyIn, due, flushIn, flushed, notifyAnswer, notifyDone, notifyKept, notifyOf}
+use Rattle.connection.specs.Notify.{flushDue, notifyDoor, NotifyIn, due, flushIn, flushed, notifyAnswer, notifyDone, notifyKept, notifyOf}
 use Rattle.connection.specs.Raw.{rawDoor}
 use Rattle.connection.specs.Offer.{sendWrites, sendOffered, sendOffers, AskedLeft, recvReads, recvAsked, recvTaken, notifyFlushes, notifyOffered, notifyOffers, notifyFirst, notifySecond, rawOffered}
 use Rattle.connection.specs.Moves.{Numbers, sendTaken, notifyTaken}
@@ -141,10 +141,10 @@ asks c hdr present buf clock a passes reads n m e f g h j = rw (j, h, f, g, e)
 
 -- ---- `notify`
 
-pub is-flushing : (c : VsockConnection) (writable : Bool) (storage : ℕ) (a : Answer) (passes empty : Bool) → a ≡ notifyDoor c storage → passes ≡ isDone a → empty ≡ quiet c
-    → passes && (writable && not empty) ≡ notifyFlushes c writable storage
+pub is-flushing : (c : VsockConnection) (writable : Bool) (storage : ℕ) (a : Answer) (passes flushes : Bool) → a ≡ notifyDoor c storage → passes ≡ isDone a → flushes ≡ flushDue c writable
+    → passes && flushes ≡ notifyFlushes c writable storage
 unfolding notifyFlushes
-is-flushing c writable storage a passes empty e f g = rw (f, g, e)
+is-flushing c writable storage a passes flushes e f g = rw (f, g, e)
 
 pub first-due : (c : VsockConnection) (writable : Bool) (store : List ℕ) → notifyFlushes c writable (length store) ≡ true → firstPiece (c .«tx_buf») store ≡ notifyFirst c writable store
 unfolding notifyFirst

@@ -1,15 +1,29 @@
 -- The promises of specs/Promises, each by its law. Assumes nothing.
 use Rattle.defs.proofs.Pins.{by-equation}
 use Rattle.connection.specs.Promises.{SendMoves, NotifyMoves, SendCountedOff, NotifyCountedOff, NotifyOffersPieces, ReadWithinAsked, ReceiveKeeps, KillKeeps, EdgesHold, EachCallPinned}
+use Rattle.connection.specs.Answers.{SendAnswers, RecvAnswers, NotifyAnswers, RawAnswers}
 use Rattle.connection.specs.Runs.{EveryRunForwards, CutsDoNotMatter, FlagsOnlyGrow, Drains}
 use Rattle.connection.specs.Stories.{StoriesHold}
 use Rattle.connection.proofs.Edges as edges
+use Rattle.connection.proofs.AnswerLaws as answers
 use Rattle.connection.proofs.MovesLaws as moves
 use Rattle.connection.proofs.RunLaws as forwarding
 use Rattle.connection.proofs.FlagLaws as flags
 use Rattle.connection.proofs.DrainLaws as draining
 use Rattle.connection.proofs.Stories as stories
 use Rattle.connection.proofs.OfferLaws as offers
+
+pub send-answers : SendAnswers
+send-answers = answers.send-answers
+
+pub recv-answers : RecvAnswers
+recv-answers = answers.recv-answers
+
+pub notify-answers : NotifyAnswers
+notify-answers = answers.notify-answers
+
+pub raw-answers : RawAnswers
+raw-answers = answers.raw-answers
 
 pub send-moves : SendMoves
 send-moves = moves.send-moves
@@ -55,10 +69,6 @@ edges-hold = edges.edges-hold
 
 pub each-call-pinned : EachCallPinned
 each-call-pinned = record {
-  is-sound = by-equation _ _ _;
-  is-sound-over = by-equation _ _ _;
-  is-quiet = by-equation _ _ _;
-  credit = by-equation _ _ _;
   new-peer-init = by-equation _ _ _;
   new-local-init = by-equation _ _ _;
   has-pending-rx = by-equation _ _ _;

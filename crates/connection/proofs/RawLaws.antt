@@ -1,34 +1,60 @@
 -- Laws of the raw send. Assumes nothing.
 use Prim.Native.Nat.{ℕ, _≤_}
 use mathlib.Core.Path.{_≡_, sym, ap, _∙_}
+use mathlib.Core.Bool.{false}
 use mathlib.Core.List.{List, _++_}
 use lib.Dec.{ltb}
 use native.Mathlib.Omega.{arith}
 use lib.ListN.{length, take, drop}
 use lib.Seq.{length-take-le}
-use borrow.Author.Tests.{ltb-false}
-use Rattle.defs.specs.Answer.{told, isDone}
-use Rattle.defs.specs.Stream.{counted, stoppedBy}
+use borrow.Author.Tests.{ltb-false, le-ltb}
+use Rattle.defs.specs.Choice.{when}
+use Rattle.defs.specs.Answer.{told, isDone, whenDone}
+use Rattle.defs.specs.Stream.{stoppedBy}
 use Rattle.defs.specs.Ladder.{lateOf, lowestOf}
 use Rattle.defs.specs.Copying.{copied}
 use Rattle.defs.specs.declared.answer.Answer.{Answer}
 use Rattle.defs.specs.declared.answer.Answer.the-variants.{Done}
-use Rattle.defs.proofs.AnswerLaws.{NotDone, not-done, when-done, when-not-done}
-use Rattle.defs.proofs.LadderLaws.{lowest-passed, late-passed}
+use Rattle.defs.specs.declared.stream.StreamAnswer.{StreamAnswer}
+use Rattle.defs.specs.declared.stream.StreamAnswer.the-variants.{Count}
+use Rattle.defs.proofs.AnswerLaws.{when-done, when-not-done}
+use Rattle.defs.proofs.ChoiceLaws.{when-holds}
+use Rattle.defs.proofs.LadderLaws.{lowest-end, lowest-passed, late-passed}
+use Rattle.defs.proofs.StreamLaws.{NotCount, takes-none, not-count-stops}
 use Rattle.defs.proofs.CopyLaws.{copied-fits}
 use Rattle.connection.specs.Raw.{RawIn, RawLeft, rawCount, rawDoor, rawAnswer, rawDone, rawKept, rawOf}
 
--- the answer, put together as the code does
-pub raw-answer : (i : RawIn) (a l d t s : Answer) (n : ℕ) → a ≡ lowestOf l s → s ≡ stoppedBy (i .answers .first) → l ≡ lowestOf d t
-    → t ≡ lateOf (ltb (length (i .buf)) n) (ltb (length (i .out)) n) → d ≡ rawDoor (i .conn) (length (i .buf)) → n ≡ counted (i .answers .first) → a ≡ rawAnswer i
-unfolding rawAnswer
-raw-answer i a l d t s n e f g h j k = rw (e, f, g, h, j, k)
+-- ---- the answer, put together as the code does
 
-pub raw-kept : (i : RawIn) (a : Answer) → a ≡ rawAnswer i → NotDone a → _≡_ {A = RawLeft} (record { answer = told a; count = 0; out = i .out }) (rawOf i)
+-- of a write that counts
+pub raw-counted : (i : RawIn) (a d t : Answer) (n : ℕ) → i .answers .first ≡ Count n → a ≡ lowestOf d t → t ≡ lateOf (ltb (length (i .buf)) n) (ltb (length (i .out)) n)
+    → d ≡ rawDoor (i .conn) (length (i .buf)) → a ≡ rawAnswer i
+unfolding rawAnswer
+raw-counted i a d t n c e f g = rw (c, e, f, g) (sym (lowest-end _))
+
+no-late : (a b : ℕ) → lateOf (ltb a 0) (ltb b 0) ≡ Done
+unfolding lateOf when
+no-late a b = rw (le-ltb a 0 (omega arith), le-ltb b 0 (omega arith))
+
+-- of one that blocks or fails
+pub raw-stopped : (i : RawIn) (a d s : Answer) → NotCount (i .answers .first) → a ≡ lowestOf d s → s ≡ stoppedBy (i .answers .first) → d ≡ rawDoor (i .conn) (length (i .buf))
+    → a ≡ rawAnswer i
+unfolding rawAnswer
+raw-stopped i a d s k e f g =
+    rw (takes-none (i .answers .first) k, no-late (length (i .buf)) (length (i .out)), lowest-end (rawDoor (i .conn) (length (i .buf))), e, f, g)
+
+pub stop-refuses : (a d s : Answer) (first : StreamAnswer) → NotCount first → a ≡ lowestOf d s → s ≡ stoppedBy first → isDone a ≡ false
+unfolding lowestOf whenDone
+stop-refuses a d s first k e f =
+    let n : isDone s ≡ false = ap isDone f ∙ not-count-stops first k in
+    ap isDone e ∙ when-holds (λ (x : Answer). isDone x ≡ false) (isDone d) s d (λ t. n) (λ t. t)
+
+-- ---- what is left
+
+pub raw-kept : (i : RawIn) (a : Answer) → a ≡ rawAnswer i → isDone a ≡ false → _≡_ {A = RawLeft} (record { answer = told a; count = 0; out = i .out }) (rawOf i)
 unfolding rawOf rawKept
-raw-kept i a e k =
-    ap (λ (x : Answer). record { answer = told x; count = 0; out = i .out }) e
-    ∙ sym (when-not-done (rawAnswer i) _ _ (ap isDone (sym e) ∙ not-done a k))
+raw-kept i a e n =
+    ap (λ (x : Answer). record { answer = told x; count = 0; out = i .out }) e ∙ sym (when-not-done (rawAnswer i) _ _ (ap isDone (sym e) ∙ n))
 
 -- the bytes taken are there, and fit
 pub record Fits (i : RawIn) : Type 0 where

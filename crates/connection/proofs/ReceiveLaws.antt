@@ -8,7 +8,7 @@ use native.Mathlib.Omega.{arith}
 use lib.Dec.{ltb, eqb}
 use lib.ListN.{length, take, drop}
 use lib.Seq.{length-take-le}
-use borrow.Author.Tests.{ltb-false, not-false}
+use borrow.Author.Tests.{ltb-false, le-ltb, not-false}
 use Rattle.defs.specs.Choice.{when}
 use Rattle.defs.specs.Answer.{told, isDone}
 use Rattle.defs.specs.Limits.{maxPacket, headerSize, isHeaderLength, isClock, isPacketLength}
@@ -18,9 +18,11 @@ use Rattle.defs.specs.Copying.{copied}
 use Rattle.defs.specs.declared.answer.Answer.{Answer}
 use Rattle.defs.specs.declared.answer.Answer.the-variants.{Done}
 use Rattle.defs.specs.declared.stream.ReadAnswer.{ReadAnswer}
-use Rattle.defs.proofs.Basics.{neither, true-or-false}
+use Rattle.defs.specs.declared.stream.ReadAnswer.the-variants.{Count}
+use Rattle.defs.proofs.Basics.{neither, true-or-false, and-false}
 use Rattle.defs.proofs.AnswerLaws.{NotDone, not-done, when-done, when-not-done}
-use Rattle.defs.proofs.LadderLaws.{lowest-passed, door-passed, late-passed}
+use Rattle.defs.proofs.LadderLaws.{lowest-end, lowest-passed, door-passed, late-passed}
+use Rattle.defs.proofs.StreamLaws.{NotRead, reads-none}
 use Rattle.defs.proofs.LimitLaws.{header-length, clock-within, packet-length}
 use Rattle.defs.proofs.CopyLaws.{copied-fits}
 use Rattle.packet.specs.Header.{EncodeLeft, EncodeSays, encoded}
@@ -40,11 +42,22 @@ pub door-is : (c : VsockConnection) (hdr : ℕ) (present : Bool) (buf clock : �
 unfolding recvDoor
 door-is c hdr present buf clock d s h k p e1 e2 e3 e4 e5 = rw (e1, e2, e3, e4, e5)
 
-pub refusal-is : (c : VsockConnection) (hdr : ℕ) (present : Bool) (buf clock : ℕ) (a : ReadAnswer) (read : ℕ) (r d l : Answer) (t : Bool) (n m : ℕ) → r ≡ lowestOf d l
-    → l ≡ lateOf (t && (ltb m n || ltb read n)) false → d ≡ recvDoor c hdr present buf clock → t ≡ readsOf c present → n ≡ readCounted a → m ≡ askedOf c buf
+-- where the answer counts
+pub refusal-counted : (c : VsockConnection) (hdr : ℕ) (present : Bool) (buf clock : ℕ) (a : ReadAnswer) (read : ℕ) (r d l : Answer) (t : Bool) (n m : ℕ) → a ≡ Count n
+    → r ≡ lowestOf d l → l ≡ lateOf (t && (ltb m n || ltb read n)) false → d ≡ recvDoor c hdr present buf clock → t ≡ readsOf c present → m ≡ askedOf c buf
     → r ≡ recvRefusal c hdr present buf clock a read
 unfolding recvRefusal
-refusal-is c hdr present buf clock a read r d l t n m e1 e2 e3 e4 e5 e6 = rw (e1, e2, e3, e4, e5, e6)
+refusal-counted c hdr present buf clock a read r d l t n m e1 e2 e3 e4 e5 e6 = rw (e1, e2, e3, e4, e5, e6)
+
+no-late : (t : Bool) (a b : ℕ) → lateOf (t && (ltb a 0 || ltb b 0)) false ≡ Done
+unfolding lateOf when
+no-late t a b = rw (le-ltb a 0 (omega arith), le-ltb b 0 (omega arith), and-false t)
+
+-- where it does not
+pub refusal-uncounted : (c : VsockConnection) (hdr : ℕ) (present : Bool) (buf clock : ℕ) (a : ReadAnswer) (read : ℕ) (d : Answer) → NotRead a
+    → d ≡ recvDoor c hdr present buf clock → d ≡ recvRefusal c hdr present buf clock a read
+unfolding recvRefusal
+refusal-uncounted c hdr present buf clock a read d k e = rw (reads-none a k, no-late (readsOf c present) (askedOf c buf) read, lowest-end (recvDoor c hdr present buf clock)) e
 
 count-at-most : (i : RecvIn) → saidBy i .count ≤ when (readsOf (i .conn) (i .present)) (readCounted (i .answer)) 0
 count-at-most i = says-what-was-read (i .conn .«pending_rx») (i .conn .state) (eqb (creditOf (i .conn)) 0) (i .present) (i .answer)

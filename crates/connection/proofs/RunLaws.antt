@@ -1,15 +1,13 @@
 -- Demand 3 over every run: each call moves bytes as its own law says, and what a run took and accepted is gathered from its calls. Assumes nothing.
 use Prim.Native.Nat.{ℕ, _%_, _^_}
 use mathlib.Core.Path.{_≡_, refl, sym, ap, _∙_}
-use mathlib.Core.Logic.{⊎-elim}
 use mathlib.Core.Bool.{Bool, true, false}
 use mathlib.Core.List.{List, [], _∷_, _++_, append-nil, append-assoc}
 use native.Mathlib.Omega.{arith}
 use lib.ListN.{length, length-append}
 use Rattle.defs.specs.Answer.{isDone, whenDone}
 use Rattle.defs.specs.declared.answer.Answer.{Answer}
-use Rattle.defs.proofs.Basics.{true-or-false}
-use Rattle.defs.proofs.ChoiceLaws.{when-true, when-false}
+use Rattle.defs.proofs.ChoiceLaws.{when-holds}
 use Rattle.txbuf.specs.Record.{usedOf, heldFrom, held}
 use Rattle.csm.specs.declared.pending.PendingRxSet.{PendingRxSet}
 use Rattle.csm.specs.declared.state.ConnState.{ConnState}
@@ -62,11 +60,7 @@ begun-fresh o state pending = record { head = refl; tail = refl; count = refl }
 
 begun-either : (a : Answer) (x y : VsockConnection) → Begun x → Begun y → Begun (whenDone a x y)
 unfolding whenDone
-begun-either a x y p q =
-    ⊎-elim
-    (λ (t : isDone a ≡ true). rw (when-true x y _ t) p)
-    (λ (t : isDone a ≡ false). rw (when-false x y _ t) q)
-    (true-or-false (isDone a))
+begun-either a x y p q = when-holds Begun (isDone a) x y (λ t. p) (λ t. q)
 
 begun : (guest : Bool) (o : Opening) (left : ConnLeft) → Opens guest o left → Begun (left .conn)
 unfolding peerInitOf localInitOf zeroConn

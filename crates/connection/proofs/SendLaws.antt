@@ -13,13 +13,17 @@ use Rattle.defs.specs.Answer.{told, isDone}
 use Rattle.defs.specs.Limits.{maxPacket, isHeaderLength, isPacketLength}
 use Rattle.defs.specs.Ladder.{doorOf, lowestOf}
 use Rattle.defs.specs.Copying.{copied}
+use Rattle.defs.specs.Stream.{failed}
 use Rattle.defs.specs.declared.answer.Answer.{Answer}
 use Rattle.defs.specs.declared.answer.Answer.the-variants.{Done}
-use Rattle.defs.proofs.Basics.{never, neither}
-use Rattle.defs.proofs.ChoiceLaws.{when-true, when-false}
+use Rattle.defs.specs.declared.stream.StreamAnswer.{StreamAnswer}
+use Rattle.defs.specs.declared.stream.StreamAnswer.the-variants.{Count}
+use Rattle.defs.proofs.Basics.{never, neither, and-false}
+use Rattle.defs.proofs.ChoiceLaws.{when-true, when-false, when-same}
 use Rattle.defs.proofs.AnswerLaws.{when-done, when-not-done}
 use Rattle.defs.proofs.LadderLaws.{lowest-passed, door-passed, late-passed}
 use Rattle.defs.proofs.LimitLaws.{clock-within, packet-length}
+use Rattle.defs.proofs.StreamLaws.{NotCount, takes-none}
 use Rattle.defs.proofs.CopyLaws.{copied-fits}
 use Rattle.packet.specs.Uapi.{opRw}
 use Rattle.packet.specs.declared.hdr.VsockPacketHdr.{VsockPacketHdr}
@@ -29,7 +33,7 @@ use Rattle.txbuf.specs.declared.record.TxBuf.{TxBuf}
 use Rattle.txbuf.proofs.RecordLaws.{Sound}
 use Rattle.txbuf.proofs.PushLaws.{is-ready, push-is-done}
 use Rattle.csm.specs.State.{takes}
-use Rattle.connection.specs.Record.{soundOver}
+use Rattle.connection.specs.Record.{soundOver, quiet}
 use Rattle.connection.specs.Send.{goesOf, planOf, killsOf, sendDoorOf, sendLate, sendDoor, sendDoorIn, Killable, Lingers, Carries, carried, SendIn, SendLeft, pktOf, sendPlan, sendAnswer, payload, sendKills, sendCarried, heardOf, ruleOf, sendDone, sendKept, sendOf}
 use Rattle.connection.specs.declared.record.VsockConnection.{VsockConnection}
 use Rattle.connection.specs.declared.send.SendPlan.{SendPlan}
@@ -76,6 +80,22 @@ in-buffer true true true buf len e =
 in-buffer true true false buf len e = (zero-le, zero-le)
 in-buffer true false isRw buf len e = (zero-le, zero-le)
 in-buffer false present isRw buf len e = (zero-le, zero-le)
+
+-- ---- the plan, put together as the code does
+
+-- of a write that counts
+pub plan-counted : (c : VsockConnection) (pkt : VsockPacketHdr) (present : Bool) (a : StreamAnswer) (g q : Bool) (m n w : ℕ) → a ≡ Count n → g ≡ goesOf c (pkt .op) present
+    → q ≡ quiet c → m ≡ when g (pkt .len) 0 → w ≡ when (g && q) n 0 → _≡_ {A = SendPlan} (record { goes = g; len = m; written = w; broken = false }) (planOf c pkt present a)
+unfolding planOf
+plan-counted c pkt present a g q m n w e1 e2 e3 e4 e5 = rw (e1, e5, e4, e3, e2, and-false (goesOf c (pkt .op) present && quiet c))
+
+-- of one that blocks or fails
+pub plan-stopped : (c : VsockConnection) (pkt : VsockPacketHdr) (present : Bool) (a : StreamAnswer) (g q f : Bool) (m : ℕ) → NotCount a → g ≡ goesOf c (pkt .op) present
+    → q ≡ quiet c → m ≡ when g (pkt .len) 0 → f ≡ failed a → _≡_ {A = SendPlan} (record { goes = g; len = m; written = 0; broken = g && q && f }) (planOf c pkt present a)
+unfolding planOf
+plan-stopped c pkt present a g q f m k e1 e2 e3 e4 = rw (takes-none a k, when-same {A = ℕ} 0 (goesOf c (pkt .op) present && quiet c), e4, e3, e2, e1)
+
+-- ---- what a refusal that passed says
 
 pub record Passed (i : SendIn) : Type 0 where
   pub sound : Sound (i .conn .«tx_buf») (length (i .store))

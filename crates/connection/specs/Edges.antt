@@ -4,6 +4,7 @@ use mathlib.Core.Bool.{Bool, true, false}
 use mathlib.Core.List.{List, [], _∷_, _++_}
 use lib.ListN.{replicate}
 use Rattle.defs.specs.Answer.{told}
+use Rattle.defs.specs.Look.{FlagLeft}
 use Rattle.defs.specs.Reading.{Reading, _reads_}
 use Rattle.defs.specs.declared.answer.Answer.the-variants.{Done}
 use Rattle.defs.specs.declared.stream.StreamAnswer.the-variants.{Count, WouldBlock, Failed}
@@ -14,12 +15,13 @@ use Rattle.packet.specs.Header.{decoded, encoded}
 use Rattle.packet.specs.Edges.{bytesA}
 use Rattle.txbuf.specs.Record.{held}
 use Rattle.txbuf.specs.declared.record.TxBuf.{TxBuf}
+use Rattle.csm.specs.Pending.{none}
 use Rattle.csm.specs.declared.timer.Timer.{Timer}
 use Rattle.csm.specs.declared.timer.Timer.the-variants.{Unset, At}
 use Rattle.csm.specs.declared.state.ConnState.the-variants.{Established, LocalClosed, Killed}
 use Rattle.connection.specs.Record.{creditOf}
-use Rattle.connection.specs.Open.{none, freshOf, peerInitOf, Opening}
-use Rattle.connection.specs.Look.{FlagLeft, hasExpiredOf}
+use Rattle.connection.specs.Open.{freshOf, peerInitOf, Opening}
+use Rattle.connection.specs.Look.{hasExpiredOf}
 use Rattle.connection.specs.Notify.{NotifyLeft, notifyOf}
 use Rattle.connection.specs.Receive.{RecvLeft, recvOf}
 use Rattle.connection.specs.Send.{SendLeft, sendOf}
@@ -151,4 +153,4 @@ expired clock = hasExpiredOf (record { conn = standing (ring 0) 100 0 0 (At 500)
 
 unfoldable pub readingI : List Reading
 readingI =
-    (expired 499 reads record { answer = told Done; yes = false }) ∷ (expired 500 reads record { answer = told Done; yes = true }) ∷ []
+    (expired 499 reads record { answer = told Done; holds = false }) ∷ (expired 500 reads record { answer = told Done; holds = true }) ∷ []

@@ -6,6 +6,7 @@ pub mod Receive
 pub mod Send
 pub mod Notify
 pub mod Offer
+pub mod Answers
 pub mod Moves
 pub mod Runs
 pub mod Stories

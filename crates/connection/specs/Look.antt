@@ -6,6 +6,7 @@ use mathlib.Core.Bool.{Bool, false, not, _&&_}
 use lib.Dec.{eqb}
 use Rattle.defs.specs.Ladder.{recordAnswer, clockAnswer}
 use Rattle.defs.specs.Answer.{Told, told, whenDone}
+use Rattle.defs.specs.Look.{FlagLeft, flagOf}
 use Rattle.defs.specs.declared.answer.Answer.{Answer}
 use Rattle.csm.specs.State.{polls}
 use Rattle.csm.specs.Pending.{isPending}
@@ -18,16 +19,13 @@ use Rattle.connection.specs.Record.{soundConn, quiet, creditOf, killedOf
 use Rattle.connection.specs.Open.{ConnLeft}
 use Rattle.connection.specs.declared.record.VsockConnection.{VsockConnection}
 
-pub record FlagLeft : Type 0 where
-  pub answer : Told
-  pub yes : Bool
-
 -- the answer of a call that tests its record alone
 abbrev pub lookAnswer : VsockConnection → Answer
 lookAnswer c = recordAnswer (soundConn c)
 
-unfoldable pub pendingOf : VsockConnection → FlagLeft
-pendingOf c = record { answer = told (lookAnswer c); yes = whenDone (lookAnswer c) (isPending (c .«pending_rx»)) false }
+-- `has_pending_rx`
+abbrev pub pendingOf : VsockConnection → FlagLeft
+pendingOf c = flagOf (lookAnswer c) (isPending (c .«pending_rx»))
 
 abbrev pub PendingSays : VsockConnection → FlagLeft → Type 0
 PendingSays c left = left ≡ pendingOf c
@@ -38,17 +36,20 @@ pub record Timed : Type 0 where
   pub conn : VsockConnection
   pub clock : ℕ
 
+-- and of one that has a clock
 abbrev pub timedAnswer : Timed → Answer
 timedAnswer i = clockAnswer (soundConn (i .conn)) (i .clock)
 
-unfoldable pub willExpireOf : Timed → FlagLeft
-willExpireOf i = record { answer = told (timedAnswer i); yes = whenDone (timedAnswer i) (isAfter (i .conn .expiry) (i .clock)) false }
+-- `will_expire`: time > now
+abbrev pub willExpireOf : Timed → FlagLeft
+willExpireOf i = flagOf (timedAnswer i) (isAfter (i .conn .expiry) (i .clock))
 
 abbrev pub WillExpireSays : Timed → FlagLeft → Type 0
 WillExpireSays i left = left ≡ willExpireOf i
 
-unfoldable pub hasExpiredOf : Timed → FlagLeft
-hasExpiredOf i = record { answer = told (timedAnswer i); yes = whenDone (timedAnswer i) (isDue (i .conn .expiry) (i .clock)) false }
+-- `has_expired`: time <= now
+abbrev pub hasExpiredOf : Timed → FlagLeft
+hasExpiredOf i = flagOf (timedAnswer i) (isDue (i .conn .expiry) (i .clock))
 
 abbrev pub HasExpiredSays : Timed → FlagLeft → Type 0
 HasExpiredSays i left = left ≡ hasExpiredOf i
@@ -57,6 +58,7 @@ pub record ExpiryLeft : Type 0 where
   pub answer : Told
   pub expiry : Timer
 
+-- `expiry`: the timer as it stands
 unfoldable pub expiryOf : VsockConnection → ExpiryLeft
 expiryOf c = record { answer = told (lookAnswer c); expiry = whenDone (lookAnswer c) (c .expiry) Unset }
 
@@ -69,6 +71,7 @@ pub record StateLeft : Type 0 where
   pub answer : Told
   pub state : ConnState
 
+-- `state`: the state as it stands
 unfoldable pub stateOf : VsockConnection → StateLeft
 stateOf c = record { answer = told (lookAnswer c); state = whenDone (lookAnswer c) (c .state) LocalInit }
 
@@ -91,6 +94,7 @@ evSetOf c = record {
 abbrev pub EvSetSays : VsockConnection → EvSetLeft → Type 0
 EvSetSays c left = left ≡ evSetOf c
 
+-- `kill`
 unfoldable pub killOf : VsockConnection → ConnLeft
 killOf c = record { answer = told (lookAnswer c); conn = whenDone (lookAnswer c) (killedOf c) c }
 

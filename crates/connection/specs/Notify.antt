@@ -8,6 +8,7 @@ use lib.Dec.{eqb}
 use Rattle.defs.specs.Choice.{when}
 use Rattle.defs.specs.Answer.{Told, told, whenDone}
 use Rattle.defs.specs.Ladder.{lowestOf, recordAnswer}
+use Rattle.defs.specs.Stream.{failed}
 use Rattle.defs.specs.declared.answer.Answer.{Answer}
 use Rattle.defs.specs.declared.answer.Answer.the-variants.{Done}
 use Rattle.defs.specs.declared.stream.StreamAnswers.{StreamAnswers}
@@ -16,7 +17,7 @@ use Rattle.txbuf.specs.declared.record.TxBuf.{TxBuf}
 use Rattle.csm.specs.State.{bothOff}
 use Rattle.csm.specs.Pending.{marked}
 use Rattle.connection.specs.Record.{soundOver, quiet, withState, killedOf}
-use Rattle.connection.specs.Send.{failed, movedOf, updatedOf}
+use Rattle.connection.specs.Send.{movedOf, updatedOf}
 use Rattle.connection.specs.declared.record.VsockConnection.{VsockConnection}
 
 -- in-event sets Rw
@@ -36,6 +37,10 @@ settledOf c =
 unfoldable pub drainedOf : VsockConnection → TxBuf → ℕ → Bool → VsockConnection
 drainedOf c ring taken fails = settledOf (when fails (killedOf (movedOf c ring taken)) (movedOf c ring taken))
 
+-- a flush is due: an out-event, and the ring isn't empty
+abbrev pub flushDue : VsockConnection → Bool → Bool
+flushDue c writable = writable && not (quiet c)
+
 -- ---- the call
 
 pub record NotifyIn : Type 0 where
@@ -51,9 +56,8 @@ pub record NotifyLeft : Type 0 where
   pub conn : VsockConnection
   pub out : List ℕ
 
--- a flush is due: an out-event, and the ring isn't empty
 abbrev pub due : NotifyIn → Bool
-due i = i .writable && not (quiet (i .conn))
+due i = flushDue (i .conn) (i .writable)
 
 abbrev pub flushIn : NotifyIn → FlushIn
 flushIn i = record { ring = i .conn .«tx_buf»; store = i .store; answers = i .answers; out = i .out }
@@ -69,6 +73,7 @@ notifyDoor c storage = recordAnswer (soundOver c storage)
 unfoldable pub notifyAnswer : NotifyIn → Answer
 notifyAnswer i = lowestOf (notifyDoor (i .conn) (length (i .store))) (when (due i) (absorbed (flushAnswer (flushIn i))) Done)
 
+-- the in-event is seen; a flush that is due moves ring, count and bytes
 unfoldable pub notifyDone : NotifyIn → NotifyLeft
 notifyDone i = record {
   answer = told Done;
@@ -76,6 +81,7 @@ notifyDone i = record {
   out = when (due i) (flushed i .out) (i .out);
 }
 
+-- 1, 5, 6: nothing changed
 unfoldable pub notifyKept : NotifyIn → NotifyLeft
 notifyKept i = record { answer = told (notifyAnswer i); conn = i .conn; out = i .out }
 

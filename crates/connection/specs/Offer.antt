@@ -1,7 +1,7 @@
 -- What a call would offer to the stream, or ask of it, before the stream has answered: none where its door refuses. Assumes nothing.
 use Prim.Native.Nat.{ℕ}
 use mathlib.Core.Path.{_≡_}
-use mathlib.Core.Bool.{Bool, not, _&&_}
+use mathlib.Core.Bool.{Bool, _&&_}
 use mathlib.Core.List.{List, []}
 use lib.ListN.{length, take}
 use Rattle.defs.specs.Choice.{when}
@@ -10,10 +10,9 @@ use Rattle.defs.specs.declared.answer.Answer.{Answer}
 use Rattle.packet.specs.Header.{decoded}
 use Rattle.txbuf.specs.Record.{held}
 use Rattle.txbuf.specs.Flush.{firstPiece, secondPiece}
-use Rattle.connection.specs.Record.{quiet}
 use Rattle.connection.specs.Send.{writesOf, sendDoor, SendIn}
 use Rattle.connection.specs.Receive.{recvDoor, readsOf, askedOf, RecvIn, refusalOf, saidBy}
-use Rattle.connection.specs.Notify.{notifyDoor, NotifyIn}
+use Rattle.connection.specs.Notify.{flushDue, notifyDoor, NotifyIn}
 use Rattle.connection.specs.Raw.{rawDoor}
 use Rattle.connection.specs.declared.record.VsockConnection.{VsockConnection}
 
@@ -49,7 +48,7 @@ recvTaken i = whenDone (refusalOf i) (saidBy i .count) 0
 
 -- `notify` flushes: an out-event, and the ring isn't empty
 unfoldable pub notifyFlushes : VsockConnection → Bool → ℕ → Bool
-notifyFlushes c writable storage = isDone (notifyDoor c storage) && (writable && not (quiet c))
+notifyFlushes c writable storage = isDone (notifyDoor c storage) && flushDue c writable
 
 -- what it offers: all that is held, in two pieces, the second only if the first was taken whole
 unfoldable pub notifyOffered : VsockConnection → Bool → List ℕ → List ℕ
@@ -58,9 +57,11 @@ notifyOffered c writable store = when (notifyFlushes c writable (length store)) 
 abbrev pub notifyOffers : NotifyIn → List ℕ
 notifyOffers i = notifyOffered (i .conn) (i .writable) (i .store)
 
+-- the first piece
 unfoldable pub notifyFirst : VsockConnection → Bool → List ℕ → List ℕ
 notifyFirst c writable store = when (notifyFlushes c writable (length store)) (firstPiece (c .«tx_buf») store) []
 
+-- the second
 unfoldable pub notifySecond : VsockConnection → Bool → List ℕ → List ℕ
 notifySecond c writable store = when (notifyFlushes c writable (length store)) (secondPiece (c .«tx_buf») store) []
 

@@ -6,6 +6,7 @@ use Rattle.defs.specs.Ladder.{recordAnswer}
 use Rattle.defs.specs.Answer.{Told, told, whenDone}
 use Rattle.defs.specs.Limits.{isRingSize}
 use Rattle.defs.specs.declared.answer.Answer.{Answer}
+use Rattle.csm.specs.Pending.{none}
 use Rattle.csm.specs.declared.pending.PendingRxSet.{PendingRxSet}
 use Rattle.csm.specs.declared.timer.Timer.the-variants.{Unset}
 use Rattle.csm.specs.declared.state.ConnState.{ConnState}
@@ -47,9 +48,6 @@ freshOf o state pending = record {
   «pending_rx» = pending;
   expiry = Unset;
 }
-
-abbrev pub none : PendingRxSet
-none = record { request = false; response = false; rst = false; rw = false; «credit_update» = false }
 
 -- the all-zero record (LocalInit, no timer)
 unfoldable pub zeroConn : VsockConnection

@@ -4,13 +4,13 @@ use mathlib.Core.Path.{_≡_}
 use mathlib.Core.Bool.{Bool}
 use mathlib.Core.List.{List, [], _++_}
 use lib.ListN.{take}
+use Rattle.defs.specs.Look.{FlagLeft}
 use Rattle.defs.specs.Pinned.{Pinned}
 use Rattle.defs.specs.Reading.{Hold}
 use Rattle.defs.specs.declared.answer.Answer.{Answer}
 use Rattle.txbuf.specs.Record.{held}
-use Rattle.connection.specs.Record.{soundConn, soundOver, quiet, creditOf}
 use Rattle.connection.specs.Open.{Opening, ConnLeft, PeerInitSays, LocalInitSays}
-use Rattle.connection.specs.Look.{FlagLeft, PendingSays, Timed, WillExpireSays, HasExpiredSays, ExpiryLeft, ExpirySays, StateLeft, StateSays, EvSetLeft, EvSetSays, KillSays}
+use Rattle.connection.specs.Look.{PendingSays, Timed, WillExpireSays, HasExpiredSays, ExpiryLeft, ExpirySays, StateLeft, StateSays, EvSetLeft, EvSetSays, KillSays}
 use Rattle.connection.specs.Raw.{RawIn, RawLeft, RawSays}
 use Rattle.connection.specs.Receive.{RecvIn, RecvLeft, RecvSays}
 use Rattle.connection.specs.Send.{SendIn, SendLeft, SendSays, accepted}
@@ -66,10 +66,6 @@ pub record EdgesHold : Type 0 where
 
 -- every public call: any two outcomes that meet its contract are identical
 pub record EachCallPinned : Type 0 where
-  pub is-sound : Pinned VsockConnection Bool (λ c r. r ≡ soundConn c)
-  pub is-sound-over : Pinned (VsockConnection × ℕ) Bool (λ i r. r ≡ soundOver (i .0) (i .1))
-  pub is-quiet : Pinned VsockConnection Bool (λ c r. r ≡ quiet c)
-  pub credit : Pinned VsockConnection ℕ (λ c r. r ≡ creditOf c)
   pub new-peer-init : Pinned Opening ConnLeft PeerInitSays
   pub new-local-init : Pinned Opening ConnLeft LocalInitSays
   pub has-pending-rx : Pinned VsockConnection FlagLeft PendingSays

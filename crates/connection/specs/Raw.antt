@@ -26,6 +26,7 @@ pub record RawLeft : Type 0 where
   pub count : ℕ
   pub out : List ℕ
 
+-- what the one write takes
 abbrev pub rawCount : RawIn → ℕ
 rawCount i = counted (i .answers .first)
 
@@ -41,14 +42,17 @@ rawAnswer i =
     (lateOf (ltb (length (i .buf)) (rawCount i)) (ltb (length (i .out)) (rawCount i))))
     (stoppedBy (i .answers .first))
 
+-- what the stream took stands at the front of the outgoing buffer
 unfoldable pub rawDone : RawIn → RawLeft
 rawDone i = record { answer = told Done; count = rawCount i; out = take (rawCount i) (i .buf) ++ drop (rawCount i) (i .out) }
 
+-- refused, blocked or failed: nothing changed
 unfoldable pub rawKept : RawIn → RawLeft
 rawKept i = record { answer = told (rawAnswer i); count = 0; out = i .out }
 
 unfoldable pub rawOf : RawIn → RawLeft
 rawOf i = whenDone (rawAnswer i) (rawDone i) (rawKept i)
 
+-- THE STATEMENT of `send_bytes_raw`
 abbrev pub RawSays : RawIn → RawLeft → Type 0
 RawSays i left = left ≡ rawOf i

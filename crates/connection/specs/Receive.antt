@@ -17,11 +17,11 @@ use Rattle.packet.specs.Uapi.{typeStream}
 use Rattle.packet.specs.Header.{encoded}
 use Rattle.packet.specs.declared.hdr.VsockPacketHdr.{VsockPacketHdr}
 use Rattle.csm.specs.Pending.{leftOf}
+use Rattle.csm.specs.Timer.{later}
 use Rattle.csm.specs.Turn.{turnStep, turnReads}
 use Rattle.csm.specs.Row.{rowOf, afterwards, armed}
 use Rattle.csm.specs.declared.pending.PendingRxSet.{PendingRxSet}
 use Rattle.csm.specs.declared.timer.Timer.{Timer}
-use Rattle.csm.specs.declared.timer.Timer.the-variants.{At}
 use Rattle.csm.specs.declared.state.ConnState.{ConnState}
 use Rattle.csm.specs.declared.turn.RxStep.{RxStep}
 use Rattle.csm.specs.declared.row.Row.{Row}
@@ -33,9 +33,6 @@ abbrev pub nextStep : VsockConnection → Bool → ReadAnswer → RxStep
 nextStep c present a = turnStep (c .«pending_rx») (c .state) (eqb (creditOf c) 0) present a
 
 -- ---- what a row leaves
-
-abbrev pub later : ℕ → ℕ → Timer
-later clock wait = At (clock + wait)
 
 -- sent rises by the count (wrapping), last-told by the row
 unfoldable pub spokenOf : VsockConnection → ℕ → Bool → ConnState → PendingRxSet → Timer → VsockConnection
@@ -56,6 +53,7 @@ spokenOf c count tells state pending expiry = record {
   expiry = expiry;
 }
 
+-- the record after a row: what it says of state and timer, and the indications that are left
 unfoldable pub receivedOf : VsockConnection → Row → ℕ → VsockConnection
 receivedOf c row clock =
     spokenOf c (row .count) (row .tells) (afterwards (row .after) (c .state)) (leftOf (c .«pending_rx») (row .ends))
@@ -119,12 +117,15 @@ recvRefusal c hdr present buf clock a read =
     lowestOf (recvDoor c hdr present buf clock)
     (lateOf (readsOf c present && (ltb (askedOf c buf) (readCounted a) || ltb read (readCounted a))) false)
 
+-- 1 to 5 of this call
 abbrev pub refusalOf : RecvIn → Answer
 refusalOf i = recvRefusal (i .conn) (length (i .hdr)) (i .present) (length (i .buf)) (i .clock) (i .answer) (length (i .read))
 
+-- the row of what is said
 abbrev pub saidBy : RecvIn → Row
 saidBy i = rowOf (nextStep (i .conn) (i .present) (i .answer))
 
+-- record, header and buffer by that row; the bytes read fill the front of the buffer, the rest of which stays
 unfoldable pub recvDone : RecvIn → RecvLeft
 recvDone i = record {
   answer = told (saidBy i .answer);
@@ -133,6 +134,7 @@ recvDone i = record {
   buf = take (saidBy i .count) (i .read) ++ drop (saidBy i .count) (i .buf);
 }
 
+-- 1 to 5: nothing changed
 unfoldable pub recvKept : RecvIn → RecvLeft
 recvKept i = record { answer = told (refusalOf i); conn = i .conn; hdr = i .hdr; buf = i .buf }
 

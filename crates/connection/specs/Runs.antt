@@ -9,12 +9,12 @@ use lib.Dec.{leb, eqb}
 use Rattle.defs.specs.Choice.{when}
 use Rattle.defs.specs.Stream.{counted}
 use Rattle.defs.specs.declared.answer.Answer.{Answer}
+use Rattle.defs.specs.Look.{FlagLeft}
 use Rattle.txbuf.specs.Record.{usedOf, held}
-use Rattle.csm.specs.declared.state.ConnState.{ConnState}
-use Rattle.csm.specs.declared.state.ConnState.the-variants.{PeerClosed, LocalClosed, Killed}
-use Rattle.connection.specs.Record.{soundConn, soundOver, quiet, creditOf}
+use Rattle.csm.specs.State.{Grown}
+use Rattle.csm.specs.declared.state.ConnState.the-variants.{PeerClosed}
 use Rattle.connection.specs.Open.{Opening, ConnLeft, PeerInitSays, LocalInitSays}
-use Rattle.connection.specs.Look.{FlagLeft, PendingSays, Timed, WillExpireSays, HasExpiredSays, ExpiryLeft, ExpirySays, StateLeft, StateSays, EvSetLeft, EvSetSays, KillSays}
+use Rattle.connection.specs.Look.{PendingSays, Timed, WillExpireSays, HasExpiredSays, ExpiryLeft, ExpirySays, StateLeft, StateSays, EvSetLeft, EvSetSays, KillSays}
 use Rattle.connection.specs.Receive.{RecvIn, RecvLeft, RecvSays}
 use Rattle.connection.specs.Send.{SendIn, SendLeft, SendSays, accepted}
 use Rattle.connection.specs.Notify.{NotifyIn, NotifyLeft, NotifySays, due}
@@ -32,10 +32,6 @@ pub data Looking : Type 0 where
   expiry : VsockConnection → ExpiryLeft → Looking
   state : VsockConnection → StateLeft → Looking
   get-polled-evset : VsockConnection → EvSetLeft → Looking
-  is-sound : VsockConnection → Bool → Looking
-  is-sound-over : VsockConnection → ℕ → Bool → Looking
-  is-quiet : VsockConnection → Bool → Looking
-  credit : VsockConnection → ℕ → Looking
   send-door : Given → Answer → Looking
   send-writes : Given → Bool → Looking
   send-offered : Given → List ℕ → Looking
@@ -55,10 +51,6 @@ lookedAt (has-expired i o) = i .conn
 lookedAt (expiry c o) = c
 lookedAt (state c o) = c
 lookedAt (get-polled-evset c o) = c
-lookedAt (is-sound c o) = c
-lookedAt (is-sound-over c n o) = c
-lookedAt (is-quiet c o) = c
-lookedAt (credit c o) = c
 lookedAt (send-door g o) = g .conn
 lookedAt (send-writes g o) = g .conn
 lookedAt (send-offered g o) = g .conn
@@ -78,10 +70,6 @@ LookSays (has-expired i o) = HasExpiredSays i o
 LookSays (expiry c o) = ExpirySays c o
 LookSays (state c o) = StateSays c o
 LookSays (get-polled-evset c o) = EvSetSays c o
-LookSays (is-sound c o) = o ≡ soundConn c
-LookSays (is-sound-over c n o) = o ≡ soundOver c n
-LookSays (is-quiet c o) = o ≡ quiet c
-LookSays (credit c o) = o ≡ creditOf c
 LookSays (send-door g o) = SendDoorSays g o
 LookSays (send-writes g o) = SendWritesSays g o
 LookSays (send-offered g o) = SendOfferedSays g o
@@ -204,12 +192,6 @@ abbrev pub CutsDoNotMatter : Type 0
 CutsDoNotMatter =
     (r s : Start) (t u : List Event) (c d : VsockConnection) (x y : List ℕ) → Run r t c x → Run s u d y → gathered acceptedBy t ≡ gathered acceptedBy u
     → usedOf (c .«tx_buf») ≡ 0 → usedOf (d .«tx_buf») ≡ 0 → Alike t u c d
-
--- what may follow PeerClosed(r, s): flags that have only grown, or LocalClosed, or Killed
-pub data Grown (r s : Bool) : ConnState → Type 0 where
-  grown : (a b : Bool) → (r ≡ true → a ≡ true) → (s ≡ true → b ≡ true) → Grown r s (PeerClosed a b)
-  closed : Grown r s LocalClosed
-  dead : Grown r s Killed
 
 -- 01: in a run from opening, the flags of PeerClosed only grow until LocalClosed or Killed
 abbrev pub FlagsOnlyGrow : Type 0

@@ -1,5 +1,5 @@
 -- `send_pkt` (01, section of that name): what is planned in numbers, the refusals, the rules of the ops, and what is left. Assumes nothing.
-use Prim.Native.Nat.{ℕ, _+_, _-_, _/_, _%_, _≤_}
+use Prim.Native.Nat.{ℕ, _+_, _-_, _≤_}
 use mathlib.Core.Path.{_≡_}
 use mathlib.Core.Bool.{Bool, true, false, not, _&&_, _||_}
 use mathlib.Core.List.{List, [], _++_}
@@ -8,34 +8,28 @@ use lib.Dec.{ltb, eqb}
 use Rattle.defs.specs.Choice.{when}
 use Rattle.defs.specs.Answer.{Told, told, whenDone}
 use Rattle.defs.specs.Limits.{maxPacket, maxClock, maxTimeout, isHeaderLength, isClock, isPacketLength}
-use Rattle.defs.specs.Stream.{counted}
+use Rattle.defs.specs.Stream.{counted, failed}
 use Rattle.defs.specs.Ladder.{doorOf, lateOf, lowestOf}
 use Rattle.defs.specs.Wrapping.{wadd}
 use Rattle.defs.specs.Credit.{peerNeedsCreditUpdate}
 use Rattle.defs.specs.declared.answer.Answer.{Answer}
 use Rattle.defs.specs.declared.answer.Answer.the-variants.{Done}
 use Rattle.defs.specs.declared.stream.StreamAnswer.{StreamAnswer}
-use Rattle.defs.specs.declared.stream.StreamAnswer.the-variants.{Count, WouldBlock, Failed}
 use Rattle.defs.specs.declared.stream.StreamAnswers.{StreamAnswers}
-use Rattle.packet.specs.Uapi.{opResponse, opShutdown, opRw, opCreditRequest, flagShutdownRcv, flagShutdownSend}
+use Rattle.packet.specs.Uapi.{opResponse, opShutdown, opRw, opCreditRequest}
 use Rattle.packet.specs.Header.{decoded}
 use Rattle.packet.specs.declared.hdr.VsockPacketHdr.{VsockPacketHdr}
 use Rattle.txbuf.specs.Record.{usedOf}
 use Rattle.txbuf.specs.Push.{PushLeft, pushAnswer, pushDone}
 use Rattle.txbuf.specs.declared.record.TxBuf.{TxBuf}
-use Rattle.csm.specs.State.{takes, asks, isLocalInit, isEstablished, shutBy, bothOff}
+use Rattle.csm.specs.State.{takes, asks, isLocalInit, isEstablished, recvOff, sendOff, shutBy, bothOff}
 use Rattle.csm.specs.Pending.{marked}
+use Rattle.csm.specs.Timer.{later}
 use Rattle.csm.specs.declared.timer.Timer.the-variants.{Unset}
 use Rattle.csm.specs.declared.state.ConnState.the-variants.{Established}
 use Rattle.connection.specs.Record.{soundOver, quiet, withState, killedOf}
-use Rattle.connection.specs.Receive.{later}
 use Rattle.connection.specs.declared.record.VsockConnection.{VsockConnection}
 use Rattle.connection.specs.declared.send.SendPlan.{SendPlan}
-
-abbrev pub failed : StreamAnswer → Bool
-failed (Count n) = false
-failed WouldBlock = false
-failed Failed = true
 
 -- ---- the rules of the ops, on the record alone
 
@@ -61,13 +55,6 @@ heardOf c pkt = record {
 -- RESPONSE in LocalInit: Established, timer cleared
 unfoldable pub onResponse : VsockConnection → VsockConnection
 onResponse c = when (isLocalInit (c .state)) (withState c Established Unset (c .«pending_rx»)) c
-
--- shutdown flags: 1 receive, 2 send
-abbrev pub recvOff : ℕ → Bool
-recvOff flags = eqb (flags / flagShutdownRcv % 2) 1
-
-abbrev pub sendOff : ℕ → Bool
-sendOff flags = eqb (flags / flagShutdownSend % 2) 1
 
 -- THE SHUTDOWN RULE: both set and ring empty: Rst; both set in Established and ring not empty: the shutdown timer
 unfoldable pub onShutdown : VsockConnection → ℕ → ℕ → VsockConnection
@@ -127,6 +114,7 @@ goesOf c op present = takes (c .state) && present && eqb op opRw
 abbrev pub writesOf : VsockConnection → ℕ → Bool → Bool
 writesOf c op present = goesOf c op present && quiet c
 
+-- what a packet's data does, in numbers
 unfoldable pub planOf : VsockConnection → VsockPacketHdr → Bool → StreamAnswer → SendPlan
 planOf c pkt present a = record {
   goes = goesOf c (pkt .op) present;
@@ -140,7 +128,7 @@ unfoldable pub killsOf : VsockConnection → SendPlan → Bool
 killsOf c p = p .goes && (p .broken || ltb (c .«tx_buf» .size) (usedOf (c .«tx_buf») + (p .len - p .written)))
 
 -- 4: a packet over 65,536 bytes; or, in any state, op RW with `len` over its size
-abbrev tooLong : VsockPacketHdr → ℕ → Bool
+abbrev pub tooLong : VsockPacketHdr → ℕ → Bool
 tooLong pkt buf = not (isPacketLength buf) || eqb (pkt .op) opRw && ltb buf (pkt .len)
 
 -- 1 to 4, by whether the record is sound and the header 44 bytes long
@@ -185,9 +173,11 @@ pub record SendLeft : Type 0 where
   pub store : List ℕ
   pub out : List ℕ
 
+-- the packet's header
 abbrev pub pktOf : SendIn → VsockPacketHdr
 pktOf i = decoded (i .hdr)
 
+-- the plan of this packet
 abbrev pub sendPlan : SendIn → SendPlan
 sendPlan i = planOf (i .conn) (pktOf i) (i .present) (i .answers .first)
 
@@ -206,12 +196,15 @@ sendAnswer i = lowestOf (sendDoorIn i) (sendLate (sendPlan i) (length (i .out)))
 abbrev pub payload : SendIn → List ℕ
 payload i = take (sendPlan i .len) (i .buf)
 
+-- the packet kills
 abbrev pub sendKills : SendIn → Bool
 sendKills i = killsOf (i .conn) (sendPlan i)
 
+-- ring and storage after it: only what the stream did not take goes there
 abbrev pub sendCarried : SendIn → PushLeft
 sendCarried i = carried (sendPlan i .goes && not (sendKills i)) (i .conn .«tx_buf») (i .store) (drop (sendPlan i .written) (payload i))
 
+-- peer credit, then the op's rule; what was taken stands at the front of the outgoing buffer
 unfoldable pub sendDone : SendIn → SendLeft
 sendDone i = record {
   answer = told Done;
@@ -220,6 +213,7 @@ sendDone i = record {
   out = take (sendPlan i .written) (payload i) ++ drop (sendPlan i .written) (i .out);
 }
 
+-- 1 to 6: nothing changed
 unfoldable pub sendKept : SendIn → SendLeft
 sendKept i = record { answer = told (sendAnswer i); conn = i .conn; store = i .store; out = i .out }
 

@@ -1,8 +1,8 @@
 // The calls that look at a connection or end it: none needs its storage or its stream.
-ghost use mathlib.Core.Path.{_≡_};
 ghost use Rattle.defs.specs.Answer.{told};
+ghost use Rattle.defs.specs.Look.{FlagLeft};
 ghost use Rattle.connection.specs.Open.{ConnLeft};
-ghost use Rattle.connection.specs.Look.{Timed, FlagLeft, PendingSays, WillExpireSays, HasExpiredSays, ExpiryLeft, ExpirySays, StateLeft, StateSays, EvSetLeft, EvSetSays, KillSays};
+ghost use Rattle.connection.specs.Look.{Timed, PendingSays, WillExpireSays, HasExpiredSays, ExpiryLeft, ExpirySays, StateLeft, StateSays, EvSetLeft, EvSetSays, KillSays};
 use crate::record::Outcome;
 use crate::record::VsockConnection;
 use crate::record::credit;
@@ -16,12 +16,7 @@ use csm::is_due;
 use csm::is_pending;
 use csm::polls;
 use defs::Answer;
-use defs::limits;
-
-pub struct Flag {
-    pub answer: Answer,
-    pub yes: bool,
-}
+use defs::Flag;
 
 pub struct Expiry {
     pub answer: Answer,
@@ -42,53 +37,38 @@ pub struct EvSet {
 
 impl VsockConnection {
     pub fn has_pending_rx(self) -> Flag
-        ensures { λ r. ⌜ PendingSays self (record { answer = told (r .answer); yes = r .yes }) ⌝ }
+        ensures { λ r. ⌜ PendingSays self (record { answer = told (r .answer); holds = r .holds }) ⌝ }
     {
-        let answer = defs::door(!is_sound(self), false, false, false);
-        let Answer::Done = answer else {
-            return Flag { answer, yes: false };
-        };
         let pending = self.pending_rx;
-        Flag {
-            answer,
-            yes: is_pending(pending),
-        }
+        defs::flag_of(defs::record_answer(is_sound(self)), is_pending(pending))
     }
 
     // A timer is set, and its time has not come.
     pub fn will_expire(self, now_ms: u64) -> Flag
-        ensures { λ r. ⌜ WillExpireSays (record { conn = self; clock = «now_ms» }) (record { answer = told (r .answer); yes = r .yes }) ⌝ }
+        ensures { λ r. ⌜ WillExpireSays (record { conn = self; clock = «now_ms» }) (record { answer = told (r .answer); holds = r .holds }) ⌝ }
     {
-        let answer = defs::door(!is_sound(self), false, !limits::is_clock(now_ms), false);
-        let Answer::Done = answer else {
-            return Flag { answer, yes: false };
-        };
         let expiry = self.expiry;
-        Flag {
-            answer,
-            yes: is_after(expiry, now_ms),
-        }
+        defs::flag_of(
+            defs::clock_answer(is_sound(self), now_ms),
+            is_after(expiry, now_ms),
+        )
     }
 
     // A timer is set, and its time has come.
     pub fn has_expired(self, now_ms: u64) -> Flag
-        ensures { λ r. ⌜ HasExpiredSays (record { conn = self; clock = «now_ms» }) (record { answer = told (r .answer); yes = r .yes }) ⌝ }
+        ensures { λ r. ⌜ HasExpiredSays (record { conn = self; clock = «now_ms» }) (record { answer = told (r .answer); holds = r .holds }) ⌝ }
     {
-        let answer = defs::door(!is_sound(self), false, !limits::is_clock(now_ms), false);
-        let Answer::Done = answer else {
-            return Flag { answer, yes: false };
-        };
         let expiry = self.expiry;
-        Flag {
-            answer,
-            yes: is_due(expiry, now_ms),
-        }
+        defs::flag_of(
+            defs::clock_answer(is_sound(self), now_ms),
+            is_due(expiry, now_ms),
+        )
     }
 
     pub fn expiry(self) -> Expiry
         ensures { λ r. ⌜ ExpirySays self (record { answer = told (r .answer); expiry = r .expiry }) ⌝ }
     {
-        let answer = defs::door(!is_sound(self), false, false, false);
+        let answer = defs::record_answer(is_sound(self));
         let Answer::Done = answer else {
             return Expiry {
                 answer,
@@ -102,7 +82,7 @@ impl VsockConnection {
     pub fn state(self) -> State
         ensures { λ r. ⌜ StateSays self (record { answer = told (r .answer); state = r .state }) ⌝ }
     {
-        let answer = defs::door(!is_sound(self), false, false, false);
+        let answer = defs::record_answer(is_sound(self));
         let Answer::Done = answer else {
             return State {
                 answer,
@@ -118,7 +98,7 @@ impl VsockConnection {
     pub fn get_polled_evset(self) -> EvSet
         ensures { λ r. ⌜ EvSetSays self (record { answer = told (r .answer); readable = r .readable; writable = r .writable }) ⌝ }
     {
-        let answer = defs::door(!is_sound(self), false, false, false);
+        let answer = defs::record_answer(is_sound(self));
         let Answer::Done = answer else {
             return EvSet {
                 answer,
@@ -139,7 +119,7 @@ impl VsockConnection {
     pub fn kill(self) -> Outcome
         ensures { λ r. ⌜ KillSays self (record { answer = told (r .answer); conn = r .conn }) ⌝ }
     {
-        let answer = defs::door(!is_sound(self), false, false, false);
+        let answer = defs::record_answer(is_sound(self));
         let Answer::Done = answer else {
             return Outcome { answer, conn: self };
         };

@@ -5,14 +5,13 @@ ghost use Prim.Native.Nat.{_≤_};
 ghost use lib.ListN.{length};
 ghost use Rattle.defs.specs.Answer.{told};
 ghost use Rattle.defs.specs.Limits.{maxRing};
-ghost use Rattle.connection.specs.Notify.{seenOf, absorbed, notifyDoor, settledOf, drainedOf, NotifyIn, NotifyLeft, NotifySays};
+ghost use Rattle.connection.specs.Notify.{flushDue, seenOf, absorbed, notifyDoor, settledOf, drainedOf, NotifyIn, NotifyLeft, NotifySays};
 use crate::record::Outcome;
 use crate::record::VsockConnection;
 use crate::record::is_quiet;
 use crate::record::is_sound_over;
 use crate::record::killed;
 use crate::record::with_state;
-use crate::send::has_failed;
 use crate::send::moved;
 use crate::send::updated;
 use csm::both_off;
@@ -27,11 +26,10 @@ impl VsockConnection {
         ensures { λ r. ⌜ r ≡ notifyDoor self (length (now (storage .entry))) ⌝ }
     {
         let sound = is_sound_over(self, storage.len());
-        defs::door(!sound, false, false, false)
+        defs::record_answer(sound)
     }
 
-    // Takes the stream's events. A flush is due on an out-event unless the ring is empty; what the
-    // stream takes of it stands at the front of `out`.
+    // Takes the stream's events. What the stream takes of a flush stands at the front of `out`.
     pub fn notify(
         self,
         readable: bool,
@@ -47,7 +45,7 @@ impl VsockConnection {
             return Outcome { answer, conn: self };
         };
         let seen = see(self, readable);
-        if writable & !is_quiet(self) {
+        if is_flush_due(self, writable) {
             let ring = self.tx_buf;
             let first = answers.first;
             let flushed = ring.flush_to(storage, answers, out);
@@ -60,7 +58,7 @@ impl VsockConnection {
                 };
             };
             let left = flushed.ring;
-            let conn = drained(seen, left, flushed.count, has_failed(first));
+            let conn = drained(seen, left, flushed.count, defs::has_failed(first));
             return Outcome {
                 answer: absorbed,
                 conn,
@@ -68,6 +66,13 @@ impl VsockConnection {
         }
         Outcome { answer, conn: seen }
     }
+}
+
+// A flush is due on an out-event, unless the ring is empty.
+pub(crate) fn is_flush_due(conn: VsockConnection, writable: bool) -> bool
+    ensures { λ r. ⌜ r ≡ flushDue conn writable ⌝ }
+{
+    writable & !is_quiet(conn)
 }
 
 fn see(conn: VsockConnection, readable: bool) -> VsockConnection

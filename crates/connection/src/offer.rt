@@ -5,7 +5,8 @@ ghost use lib.ListN.{length};
 ghost use Rattle.defs.specs.Answer.{isDone};
 ghost use Rattle.connection.specs.Send.{sendDoor};
 ghost use Rattle.connection.specs.Receive.{recvDoor};
-ghost use Rattle.connection.specs.Offer.{sendWrites, sendOffered, AskedLeft, recvReads, recvAsked, notifyFlushes, notifyFirst, notifySecond, rawOffered};
+ghost use Rattle.connection.specs.Offer.{sendWrites, sendOffered, AskedLeft, recvAsked, notifyFlushes, notifyFirst, notifySecond, rawOffered};
+use crate::notify::is_flush_due;
 use crate::receive::door_of;
 use crate::receive::reads;
 use crate::record::VsockConnection;
@@ -149,7 +150,7 @@ fn is_open(door: Answer) -> bool
 fn flushes(conn: VsockConnection, writable: bool, storage: usize) -> bool
     ensures { λ r. ⌜ r ≡ notifyFlushes conn writable storage ⌝ }
 {
-    let door = defs::door(!is_sound_over(conn, storage), false, false, false);
-    let due = writable & !is_quiet(conn);
+    let door = defs::record_answer(is_sound_over(conn, storage));
+    let due = is_flush_due(conn, writable);
     is_open(door) & due
 }

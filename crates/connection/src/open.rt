@@ -99,7 +99,7 @@ fn open_answer(size: u32, settings: Settings) -> Answer
     ensures { λ r. ⌜ r ≡ openAnswer size settings ⌝ }
 {
     let ok = limits::is_ring_size(size) & ok_settings(settings, size);
-    defs::door(!ok, false, false, false)
+    defs::record_answer(ok)
 }
 
 // A connection with an empty ring, all counters 0 and no timer.

@@ -6,6 +6,7 @@ ghost use Rattle.connection.specs.Raw.{rawDoor, RawIn, RawLeft, RawSays}
 use crate::record::VsockConnection;
 use crate::record::is_sound;
 use defs::Answer;
+use defs::StreamAnswer;
 use defs::StreamAnswers;
 use defs::limits;
 
@@ -27,11 +28,16 @@ impl VsockConnection {
     pub fn send_bytes_raw(self, buf: &[u8], answers: StreamAnswers, out: &mut [u8]) -> RawSent
         ensures { λ r. ⌜ RawSays (record { conn = self; buf = now (buf .entry); answers = answers; out = now (out .entry) }) (record { answer = told (r .answer); count = r .count; out = now (out .exit) }) ⌝ }
     {
-        let first = answers.first;
-        let count = defs::count_of(first);
         let door = self.raw_door(buf);
+        let first = answers.first;
+        let StreamAnswer::Count(count) = first else {
+            return RawSent {
+                answer: defs::lowest(door, defs::stopped_by(first)),
+                count: 0,
+            };
+        };
         let late = defs::late(buf.len() < count, out.len() < count);
-        let answer = defs::lowest(defs::lowest(door, late), defs::stopped_by(first));
+        let answer = defs::lowest(door, late);
         let Answer::Done = answer else {
             return RawSent { answer, count: 0 };
         };

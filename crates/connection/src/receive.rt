@@ -8,7 +8,8 @@ ghost use Rattle.defs.specs.Answer.{told};
 ghost use Rattle.defs.specs.Choice.{when};
 ghost use Rattle.defs.specs.Limits.{maxPacket, maxClock, maxTimeout};
 ghost use Rattle.csm.specs.Row.{rowOf};
-ghost use Rattle.connection.specs.Receive.{nextStep, spokenOf, Receivable, receivedOf, headerOf, readsOf, recvDoor, recvRefusal, later, RecvIn, RecvLeft, RecvSays};
+ghost use Rattle.csm.specs.Timer.{later};
+ghost use Rattle.connection.specs.Receive.{nextStep, spokenOf, Receivable, receivedOf, headerOf, readsOf, recvDoor, recvRefusal, RecvIn, RecvLeft, RecvSays};
 use crate::record::Outcome;
 use crate::record::VsockConnection;
 use crate::record::credit;
@@ -81,7 +82,9 @@ fn recv_refusal(
     ensures { λ r. ⌜ r ≡ recvRefusal conn hdr present buf «now_ms» answer read ⌝ }
 {
     let door = door_of(conn, hdr, present, buf, now_ms);
-    let count = defs::read_count(answer);
+    let ReadAnswer::Count(count) = answer else {
+        return door;
+    };
     let asked = defs::smaller(buf, credit(conn) as usize);
     let over = reads(conn, present) & ((asked < count) | (read < count));
     defs::lowest(door, defs::late(over, false))

@@ -53,7 +53,7 @@ pub(crate) fn ok_settings(settings: Settings, size: u32) -> bool
 }
 
 // Whether the record is sound, where no ring storage is lent.
-pub fn is_sound(conn: VsockConnection) -> bool
+pub(crate) fn is_sound(conn: VsockConnection) -> bool
     ensures { λ r. ⌜ r ≡ soundConn conn ⌝ }
 {
     let ring = conn.tx_buf;
@@ -62,7 +62,7 @@ pub fn is_sound(conn: VsockConnection) -> bool
 }
 
 // Whether it is sound over a ring storage of so many bytes.
-pub fn is_sound_over(conn: VsockConnection, storage: usize) -> bool
+pub(crate) fn is_sound_over(conn: VsockConnection, storage: usize) -> bool
     ensures { λ r. ⌜ r ≡ soundOver conn storage ⌝ }
 {
     let ring = conn.tx_buf;
@@ -71,7 +71,7 @@ pub fn is_sound_over(conn: VsockConnection, storage: usize) -> bool
 }
 
 // Whether the ring counts as empty.
-pub fn is_quiet(conn: VsockConnection) -> bool
+pub(crate) fn is_quiet(conn: VsockConnection) -> bool
     ensures { λ r. ⌜ r ≡ quiet conn ⌝ }
 {
     let ring = conn.tx_buf;
@@ -79,7 +79,7 @@ pub fn is_quiet(conn: VsockConnection) -> bool
 }
 
 // How many bytes the guest has room for.
-pub fn credit(conn: VsockConnection) -> u32
+pub(crate) fn credit(conn: VsockConnection) -> u32
     ensures { λ r. ⌜ r ≡ creditOf conn ⌝ }
 {
     defs::peer_avail_credit(conn.peer_buf_alloc, conn.rx_cnt, conn.peer_fwd_cnt)

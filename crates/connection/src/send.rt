@@ -9,10 +9,9 @@ ghost use Prim.Native.Nat.{_≤_};
 ghost use lib.ListN.{length, take, drop};
 ghost use Rattle.defs.specs.Choice.{when};
 ghost use Rattle.defs.specs.Answer.{told};
-ghost use Rattle.defs.specs.Limits.{maxRing, maxPacket, maxClock, maxTimeout};
+ghost use Rattle.defs.specs.Limits.{maxRing, maxPacket};
 ghost use Rattle.txbuf.specs.Push.{PushLeft};
-ghost use Rattle.connection.specs.Receive.{later};
-ghost use Rattle.connection.specs.Send.{failed, recvOff, sendOff, heardOf, movedOf, updatedOf, onResponse, onShutdown, onCreditRequest, onData, ruleOf, goesOf, planOf, killsOf, sendDoorOf, sendLate, Lingers, Killable, carried, Carries, SendIn, SendLeft, SendSays};
+ghost use Rattle.connection.specs.Send.{heardOf, movedOf, updatedOf, onResponse, onShutdown, onCreditRequest, onData, ruleOf, goesOf, planOf, killsOf, sendDoorOf, sendLate, Lingers, Killable, carried, Carries, SendIn, SendLeft, SendSays};
 use crate::receive::later_by;
 use crate::record::Outcome;
 use crate::record::VsockConnection;
@@ -26,6 +25,8 @@ use csm::asks;
 use csm::both_off;
 use csm::is_established;
 use csm::is_local_init;
+use csm::is_recv_off;
+use csm::is_send_off;
 use csm::mark;
 use csm::shut;
 use csm::takes;
@@ -93,8 +94,7 @@ impl VsockConnection {
 
 // ---- what is decided
 
-// Data goes on: RW, in a state that takes it, with a buffer. The one write is made where the ring
-// is empty.
+// The one write is made where the ring is empty; a would-block counts as nothing taken.
 fn plan_send(
     conn: VsockConnection,
     pkt: VsockPacketHdr,
@@ -106,16 +106,23 @@ fn plan_send(
     let goes = goes(conn, pkt.op, present);
     let writes = goes & is_quiet(conn);
     let len = choose(goes, pkt.len as usize);
-    let written = choose(writes, defs::count_of(answer));
-    let broken = writes & has_failed(answer);
+    let StreamAnswer::Count(count) = answer else {
+        return SendPlan {
+            goes,
+            len,
+            written: 0,
+            broken: writes & defs::has_failed(answer),
+        };
+    };
     SendPlan {
         goes,
         len,
-        written,
-        broken,
+        written: choose(writes, count),
+        broken: false,
     }
 }
 
+// Data goes on: RW in a state that takes it, with a buffer.
 pub(crate) fn goes(conn: VsockConnection, op: u16, present: bool) -> bool
     ensures { λ r. ⌜ r ≡ goesOf conn op present ⌝ }
 {
@@ -127,16 +134,6 @@ pub(crate) fn choose(test: bool, count: usize) -> usize
     ensures { λ r. ⌜ r ≡ when test count 0 ⌝ }
 {
     if test { count } else { 0 }
-}
-
-pub(crate) fn has_failed(answer: StreamAnswer) -> bool
-    ensures { λ r. ⌜ r ≡ failed answer ⌝ }
-{
-    match answer {
-        StreamAnswer::Count(_) => false,
-        StreamAnswer::WouldBlock => false,
-        StreamAnswer::Failed => true,
-    }
 }
 
 // 1 to 4, of a header that was decoded. `len` is held to the buffer in any state.
@@ -258,18 +255,6 @@ fn on_shutdown(conn: VsockConnection, flags: u32, now_ms: u64) -> VsockConnectio
     let off = both_off(after);
     let timer = choose_timer(is_established(state) & off & !quiet, linger, expiry);
     with_state(conn, after, timer, mark(pending, off & quiet, false, false))
-}
-
-fn is_recv_off(flags: u32) -> bool
-    ensures { λ r. ⌜ r ≡ recvOff flags ⌝ }
-{
-    flags / uapi::VSOCK_FLAGS_SHUTDOWN_RCV % 2 == 1
-}
-
-fn is_send_off(flags: u32) -> bool
-    ensures { λ r. ⌜ r ≡ sendOff flags ⌝ }
-{
-    flags / uapi::VSOCK_FLAGS_SHUTDOWN_SEND % 2 == 1
 }
 
 fn choose_timer(test: bool, timer: Timer, other: Timer) -> Timer

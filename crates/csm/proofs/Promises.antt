@@ -1,14 +1,17 @@
 -- The promises of specs/Promises, each by its law. Assumes nothing.
 use Rattle.defs.proofs.Pins.{by-equation}
-use Rattle.csm.specs.Promises.{SaysWhatWasRead, ShutOpensNothing, EachCallPinned}
+use Rattle.csm.specs.Promises.{SaysWhatWasRead, TurnAnswers, ShutOnlyGrows, EachCallPinned}
 use Rattle.csm.proofs.StateLaws as states
 use Rattle.csm.proofs.TurnLaws as turns
 
 pub says-what-was-read : SaysWhatWasRead
 says-what-was-read = turns.says-what-was-read
 
-pub shut-opens-nothing : ShutOpensNothing
-shut-opens-nothing = states.shut-opens-nothing
+pub turn-answers : TurnAnswers
+turn-answers = turns.turn-answers
+
+pub shut-only-grows : ShutOnlyGrows
+shut-only-grows = states.shut-only-grows
 
 pub each-call-pinned : EachCallPinned
 each-call-pinned = record {
@@ -20,9 +23,10 @@ each-call-pinned = record {
   timer-after = by-equation _ _ _;
   asks = by-equation _ _ _;
   both-off = by-equation _ _ _;
-  gives = by-equation _ _ _;
   is-established = by-equation _ _ _;
   is-local-init = by-equation _ _ _;
+  is-recv-off = by-equation _ _ _;
+  is-send-off = by-equation _ _ _;
   polls = by-equation _ _ _;
   shut = by-equation _ _ _;
   takes = by-equation _ _ _;

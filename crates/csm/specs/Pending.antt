@@ -2,6 +2,10 @@
 use mathlib.Core.Bool.{Bool, false, not, _&&_, _||_}
 use Rattle.csm.specs.declared.pending.PendingRxSet.{PendingRxSet}
 
+-- no indication is pending
+abbrev pub none : PendingRxSet
+none = record { request = false; response = false; rst = false; rw = false; «credit_update» = false }
+
 -- any indication is pending
 unfoldable pub isPending : PendingRxSet → Bool
 isPending p = p .request || p .response || p .rst || p .rw || p .«credit_update»

@@ -8,13 +8,14 @@ use Rattle.csm.specs.declared.timer.Timer.{Timer}
 use Rattle.csm.specs.declared.state.ConnState.{ConnState}
 use Rattle.csm.specs.declared.state.ConnState.the-variants.{Established, LocalClosed}
 use Rattle.csm.specs.declared.turn.RxStep.{RxStep}
-use Rattle.csm.specs.declared.turn.RxStep.the-variants.{Rst, Response, Request, Refuse, AskCredit, NoBuffer, Data, Close, Fail, Update, Nothing}
+use Rattle.csm.specs.declared.turn.RxStep.the-variants.{Rst, Response, Request, OutOfState, AskCredit, NoBuffer, Data, Close, Fail, Update, Nothing}
 use Rattle.csm.specs.declared.row.After.{After}
 use Rattle.csm.specs.declared.row.After.the-variants.{Same, Opens, Closes}
 use Rattle.csm.specs.declared.row.Arms.{Arms}
 use Rattle.csm.specs.declared.row.Arms.the-variants.{Keep, Wait, Linger}
 use Rattle.csm.specs.declared.row.Row.{Row}
 
+-- a row by its columns
 abbrev is : Answer → ℕ → ℕ → ℕ → Bool → Bool → After → Arms → Row
 is answer op flags count tells ends after arms = record {
   answer = answer;
@@ -40,7 +41,7 @@ abbrev pub rowOf : RxStep → Row
 rowOf Rst = is Done opRst 0 0 false false Same Keep
 rowOf Response = is Done opResponse 0 0 false false Opens Keep
 rowOf Request = is Done opRequest 0 0 false false Same Wait
-rowOf Refuse = is Done opRst 0 0 false false Same Keep
+rowOf OutOfState = is Done opRst 0 0 false false Same Keep
 rowOf AskCredit = is Done opCreditRequest 0 0 true false Same Keep
 rowOf NoBuffer = is PktBufMissing 0 0 0 false false Same Keep
 rowOf (Data n) = is Done opRw 0 n true false Same Keep
@@ -49,11 +50,13 @@ rowOf Fail = is Done opRst 0 0 true false Same Keep
 rowOf Update = is Done opCreditUpdate 0 0 true true Same Keep
 rowOf Nothing = is NoData 0 0 0 false true Same Keep
 
+-- what becomes of the state
 abbrev pub afterwards : After → ConnState → ConnState
 afterwards Same state = state
 afterwards Opens state = Established
 afterwards Closes state = LocalClosed
 
+-- what becomes of the timer: kept, or set for the request or for the shutdown
 abbrev pub armed : Arms → Timer → Timer → Timer → Timer
 armed Keep expiry wait linger = expiry
 armed Wait expiry wait linger = wait

@@ -1,5 +1,9 @@
--- What each state of a connection allows (01, `recv_pkt` and `send_pkt`). Assumes nothing.
+-- What each state of a connection allows, and what a SHUTDOWN makes of it (01, `recv_pkt` and `send_pkt`). Assumes nothing.
+use Prim.Native.Nat.{ℕ, _/_, _%_}
+use mathlib.Core.Path.{_≡_}
 use mathlib.Core.Bool.{Bool, true, false, not, _&&_, _||_}
+use lib.Dec.{eqb}
+use Rattle.packet.specs.Uapi.{flagShutdownRcv, flagShutdownSend}
 use Rattle.csm.specs.declared.state.ConnState.{ConnState}
 use Rattle.csm.specs.declared.state.ConnState.the-variants.{LocalInit, PeerInit, Established, LocalClosed, PeerClosed, Killed}
 
@@ -39,6 +43,7 @@ asks LocalClosed = false
 asks (PeerClosed recvOff sendOff) = not sendOff
 asks Killed = false
 
+-- opened by the host, and not confirmed by the guest yet
 abbrev pub isLocalInit : ConnState → Bool
 isLocalInit LocalInit = true
 isLocalInit PeerInit = false
@@ -47,6 +52,7 @@ isLocalInit LocalClosed = false
 isLocalInit (PeerClosed recvOff sendOff) = false
 isLocalInit Killed = false
 
+-- data may pass both ways
 abbrev pub isEstablished : ConnState → Bool
 isEstablished LocalInit = false
 isEstablished PeerInit = false
@@ -54,6 +60,14 @@ isEstablished Established = true
 isEstablished LocalClosed = false
 isEstablished (PeerClosed recvOff sendOff) = false
 isEstablished Killed = false
+
+-- shutdown flags: 1 receive, 2 send; the guest will receive no more
+abbrev pub recvOff : ℕ → Bool
+recvOff flags = eqb (flags / flagShutdownRcv % 2) 1
+
+-- the guest will send no more
+abbrev pub sendOff : ℕ → Bool
+sendOff flags = eqb (flags / flagShutdownSend % 2) 1
 
 -- SHUTDOWN in Established: PeerClosed with the flags; in PeerClosed: flags are ORed
 abbrev pub shutBy : ConnState → Bool → Bool → ConnState
@@ -72,3 +86,9 @@ bothOff Established = false
 bothOff LocalClosed = false
 bothOff (PeerClosed a b) = a && b
 bothOff Killed = false
+
+-- what may follow PeerClosed(r, s): flags that have only grown, or LocalClosed, or Killed
+pub data Grown (r s : Bool) : ConnState → Type 0 where
+  grown : (a b : Bool) → (r ≡ true → a ≡ true) → (s ≡ true → b ≡ true) → Grown r s (PeerClosed a b)
+  closed : Grown r s LocalClosed
+  dead : Grown r s Killed

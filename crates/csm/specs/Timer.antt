@@ -1,5 +1,5 @@
 -- The timer of a connection (01, timers). Assumes nothing.
-use Prim.Native.Nat.{ℕ}
+use Prim.Native.Nat.{ℕ, _+_}
 use mathlib.Core.Bool.{Bool, false}
 use lib.Dec.{ltb, leb}
 use Rattle.csm.specs.declared.timer.Timer.{Timer}
@@ -14,3 +14,7 @@ isAfter (At time) clock = ltb clock time
 abbrev pub isDue : Timer → ℕ → Bool
 isDue Unset clock = false
 isDue (At time) clock = leb time clock
+
+-- set to so many milliseconds from now
+abbrev pub later : ℕ → ℕ → Timer
+later clock wait = At (clock + wait)

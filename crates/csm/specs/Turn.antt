@@ -1,14 +1,15 @@
 -- What a turn to speak says (01, `recv_pkt`): the first that is pending, and for data what state, credit, buffer and stream make of it. Assumes nothing.
-use mathlib.Core.Bool.{Bool, not, _&&_}
+use mathlib.Core.Bool.{Bool, not, _&&_, _||_}
 use lib.Dec.{eqb}
 use Rattle.defs.specs.Choice.{when}
+use Rattle.defs.specs.Stream.{readBlocks}
 use Rattle.defs.specs.declared.stream.ReadAnswer.{ReadAnswer}
 use Rattle.defs.specs.declared.stream.ReadAnswer.the-variants.{Count, WouldBlock, Failed}
 use Rattle.csm.specs.State.{gives}
 use Rattle.csm.specs.declared.pending.PendingRxSet.{PendingRxSet}
 use Rattle.csm.specs.declared.state.ConnState.{ConnState}
 use Rattle.csm.specs.declared.turn.RxStep.{RxStep}
-use Rattle.csm.specs.declared.turn.RxStep.the-variants.{Rst, Response, Request, Refuse, AskCredit, NoBuffer, Data, Close, Fail, Update, Nothing}
+use Rattle.csm.specs.declared.turn.RxStep.the-variants.{Rst, Response, Request, OutOfState, AskCredit, NoBuffer, Data, Close, Fail, Update, Nothing}
 
 -- a positive count is data, 0 closes, a would-block falls through, a failure fails
 abbrev pub readStep : ReadAnswer → RxStep → RxStep
@@ -18,8 +19,9 @@ readStep Failed update = Fail
 
 -- Rw out of state: RST; then credit 0: CREDIT_REQUEST; then the buffer is needed
 abbrev pub dataStep : Bool → Bool → Bool → RxStep → RxStep
-dataStep gives blocked present read = when gives (when blocked AskCredit (when present read NoBuffer)) Refuse
+dataStep allowed noCredit present read = when allowed (when noCredit AskCredit (when present read NoBuffer)) OutOfState
 
+-- else a credit update, if one is pending
 abbrev pub updateStep : Bool → RxStep
 updateStep update = when update Update Nothing
 
@@ -29,8 +31,21 @@ rxStep p some update = when (p .rst) Rst (when (p .response) Response (when (p .
 
 -- by what is pending, the state, whether the guest's credit is 0, whether there is a buffer, and the stream's answer
 unfoldable pub turnStep : PendingRxSet → ConnState → Bool → Bool → ReadAnswer → RxStep
-turnStep p state blocked present a = rxStep p (dataStep (gives state) blocked present (readStep a (updateStep (p .«credit_update»)))) (updateStep (p .«credit_update»))
+turnStep p state noCredit present a = rxStep p (dataStep (gives state) noCredit present (readStep a (updateStep (p .«credit_update»)))) (updateStep (p .«credit_update»))
+
+-- Rw is the first that is pending
+abbrev pub dataFirst : PendingRxSet → Bool
+dataFirst p = not (p .rst) && not (p .response) && not (p .request) && p .rw
 
 -- the turn reads from the stream: Rw is first, the state gives, credit isn't 0, and there is a buffer
 unfoldable pub turnReads : PendingRxSet → ConnState → Bool → Bool → Bool
-turnReads p state blocked present = not (p .rst) && not (p .response) && not (p .request) && p .rw && gives state && not blocked && present
+turnReads p state noCredit present = dataFirst p && gives state && not noCredit && present
+
+-- answer 7, nothing to say: no indication is left but one for data that the stream has not got yet
+unfoldable pub hasNothing : PendingRxSet → ConnState → Bool → Bool → ReadAnswer → Bool
+hasNothing p state noCredit present a =
+    not (p .rst) && not (p .response) && not (p .request) && (not (p .rw) || gives state && not noCredit && present && readBlocks a) && not (p .«credit_update»)
+
+-- answer 8: data due, credit not 0, no buffer
+unfoldable pub lacksBuffer : PendingRxSet → ConnState → Bool → Bool → Bool
+lacksBuffer p state noCredit present = dataFirst p && gives state && not noCredit && not present

@@ -1,6 +1,6 @@
-// The state machine of a connection (csm/mod.rs), as tables: what a state allows, what is pending,
-// what a turn to speak says, and what that leaves of state, indications and timer. No record of a
-// connection and no byte is touched here.
+// The state machine of a connection (csm/mod.rs, and the rules of csm/connection.rs that need no
+// record), as tables: what a state allows, what is pending, what a turn to speak says, and what that
+// leaves of state, indications and timer. No byte is touched here.
 mod pending;
 mod row;
 mod state;
@@ -20,9 +20,10 @@ pub use row::timer_after;
 pub use state::ConnState;
 pub use state::asks;
 pub use state::both_off;
-pub use state::gives;
 pub use state::is_established;
 pub use state::is_local_init;
+pub use state::is_recv_off;
+pub use state::is_send_off;
 pub use state::polls;
 pub use state::shut;
 pub use state::takes;

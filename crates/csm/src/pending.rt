@@ -10,12 +10,14 @@ pub struct PendingRxSet {
     pub credit_update: bool,
 }
 
+// Any is pending.
 pub fn is_pending(pending: PendingRxSet) -> bool
     ensures { λ r. ⌜ r ≡ isPending pending ⌝ }
 {
     pending.request | pending.response | pending.rst | pending.rw | pending.credit_update
 }
 
+// With Rst, Rw and CreditUpdate set besides, each where it is asked for.
 pub fn mark(pending: PendingRxSet, rst: bool, rw: bool, update: bool) -> PendingRxSet
     ensures { λ r. ⌜ r ≡ marked pending rst rw update ⌝ }
 {

@@ -34,6 +34,7 @@ pub struct Row {
     pub arms: Arms,
 }
 
+// The row of a step.
 pub fn row_of(step: RxStep) -> Row
     ensures { λ r. ⌜ r ≡ rowOf step ⌝ }
 {
@@ -41,7 +42,7 @@ pub fn row_of(step: RxStep) -> Row
         RxStep::Rst => plain(Answer::Done, uapi::VSOCK_OP_RST, false, false),
         RxStep::Response => turning(uapi::VSOCK_OP_RESPONSE, After::Opens, Arms::Keep),
         RxStep::Request => turning(uapi::VSOCK_OP_REQUEST, After::Same, Arms::Wait),
-        RxStep::Refuse => plain(Answer::Done, uapi::VSOCK_OP_RST, false, false),
+        RxStep::OutOfState => plain(Answer::Done, uapi::VSOCK_OP_RST, false, false),
         RxStep::AskCredit => plain(Answer::Done, uapi::VSOCK_OP_CREDIT_REQUEST, true, false),
         RxStep::NoBuffer => plain(Answer::PktBufMissing, 0, false, false),
         RxStep::Data(count) => data_row(count),
@@ -107,6 +108,7 @@ fn close_row() -> Row
     }
 }
 
+// The state after a row.
 pub fn state_after(after: After, state: ConnState) -> ConnState
     ensures { λ r. ⌜ r ≡ afterwards after state ⌝ }
 {
@@ -117,6 +119,7 @@ pub fn state_after(after: After, state: ConnState) -> ConnState
     }
 }
 
+// The timer after it: `wait` where a request goes out, `linger` where the stream has ended.
 pub fn timer_after(arms: Arms, expiry: Timer, wait: Timer, linger: Timer) -> Timer
     ensures { λ r. ⌜ r ≡ armed arms expiry wait linger ⌝ }
 {

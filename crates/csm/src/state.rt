@@ -1,6 +1,7 @@
-// The state of a connection (csm/mod.rs), and what each state allows.
+// The state of a connection, and what each state allows.
 ghost use mathlib.Core.Path.{_≡_};
-ghost use Rattle.csm.specs.State.{polls, gives, takes, asks, isLocalInit, isEstablished, shutBy, bothOff};
+ghost use Rattle.csm.specs.State.{polls, gives, takes, asks, isLocalInit, isEstablished, recvOff, sendOff, shutBy, bothOff};
+use packet::uapi;
 
 pub enum ConnState {
     // Opened by the host, and not confirmed by the guest yet.
@@ -31,7 +32,7 @@ pub fn polls(state: ConnState) -> bool
 }
 
 // The states in which data may go to the guest.
-pub fn gives(state: ConnState) -> bool
+pub(crate) fn gives(state: ConnState) -> bool
     ensures { λ r. ⌜ r ≡ gives state ⌝ }
 {
     match state {
@@ -96,6 +97,20 @@ pub fn is_established(state: ConnState) -> bool
         ConnState::PeerClosed(_, _) => false,
         ConnState::Killed => false,
     }
+}
+
+// A SHUTDOWN whose flags say that the guest will receive no more.
+pub fn is_recv_off(flags: u32) -> bool
+    ensures { λ r. ⌜ r ≡ recvOff flags ⌝ }
+{
+    flags / uapi::VSOCK_FLAGS_SHUTDOWN_RCV % 2 == 1
+}
+
+// One that says that it will send no more.
+pub fn is_send_off(flags: u32) -> bool
+    ensures { λ r. ⌜ r ≡ sendOff flags ⌝ }
+{
+    flags / uapi::VSOCK_FLAGS_SHUTDOWN_SEND % 2 == 1
 }
 
 // The state after a SHUTDOWN: the flags only grow.

@@ -12,7 +12,7 @@ pub enum RxStep {
     Response,
     Request,
     // Data is due in a state that gives none.
-    Refuse,
+    OutOfState,
     // Data is due, and the guest has no room.
     AskCredit,
     // Data is due, and no buffer is there to read into.
@@ -26,26 +26,27 @@ pub enum RxStep {
     Nothing,
 }
 
-// Whether the turn reads from the stream. The guest is `blocked` where it has no credit.
-pub fn turn_reads(pending: PendingRxSet, state: ConnState, blocked: bool, present: bool) -> bool
-    ensures { λ r. ⌜ r ≡ turnReads pending state blocked present ⌝ }
+// Whether the turn reads from the stream.
+pub fn turn_reads(pending: PendingRxSet, state: ConnState, no_credit: bool, present: bool) -> bool
+    ensures { λ r. ⌜ r ≡ turnReads pending state «no_credit» present ⌝ }
 {
     let p = pending;
-    !p.rst & !p.response & !p.request & p.rw & gives(state) & !blocked & present
+    !p.rst & !p.response & !p.request & p.rw & gives(state) & !no_credit & present
 }
 
+// What it says.
 pub fn turn_step(
     pending: PendingRxSet,
     state: ConnState,
-    blocked: bool,
+    no_credit: bool,
     present: bool,
     answer: ReadAnswer,
 ) -> RxStep
-    ensures { λ r. ⌜ r ≡ turnStep pending state blocked present answer ⌝ }
+    ensures { λ r. ⌜ r ≡ turnStep pending state «no_credit» present answer ⌝ }
 {
     let update = update_step(pending.credit_update);
     let read = read_step(answer, update);
-    let some = data_step(gives(state), blocked, present, read);
+    let some = data_step(gives(state), no_credit, present, read);
     rx_step(pending, some, update)
 }
 
@@ -66,16 +67,16 @@ fn rx_step(pending: PendingRxSet, some: RxStep, update: RxStep) -> RxStep
 }
 
 // Credit before buffer: a guest without room is asked for it, whether there is a buffer or not.
-fn data_step(gives: bool, blocked: bool, present: bool, read: RxStep) -> RxStep
-    ensures { λ r. ⌜ r ≡ dataStep gives blocked present read ⌝ }
+fn data_step(allowed: bool, no_credit: bool, present: bool, read: RxStep) -> RxStep
+    ensures { λ r. ⌜ r ≡ dataStep allowed «no_credit» present read ⌝ }
 {
-    if gives {
-        if blocked {
+    if allowed {
+        if no_credit {
             return RxStep::AskCredit;
         }
         if present { read } else { RxStep::NoBuffer }
     } else {
-        RxStep::Refuse
+        RxStep::OutOfState
     }
 }
 

@@ -1,6 +1,6 @@
 -- Laws of answers: what is done, what is not, and that `told` tells them apart. Assumes nothing.
 use mathlib.Core.Path.{_≡_, refl, sym, ap, _∙_}
-use mathlib.Core.Bool.{true, false}
+use mathlib.Core.Bool.{Bool, true, false}
 use mathlib.Core.List.{List, [], _∷_}
 use Prim.Native.Nat.{ℕ}
 use lib.Dec.{eqb}
@@ -13,7 +13,7 @@ use Rattle.defs.specs.Answer.{Told, told, isDone, whenDone}
 use Rattle.defs.specs.declared.answer.Answer.{Answer}
 use Rattle.defs.specs.declared.answer.Answer.the-variants.{Done, BadRecord, BadHeader, BadClock, BadLength, BadAnswer, NoRoom, NoData, PktBufMissing, TxBufFull, StreamBlocked, StreamFailed, NotQueued}
 use Rattle.defs.proofs.Basics.{never}
-use Rattle.defs.proofs.ChoiceLaws.{when-true, when-false}
+use Rattle.defs.proofs.ChoiceLaws.{when-true, when-false, when-holds}
 
 -- what the code knows past a `let Answer::Done = a else`: one of the other cases
 abbrev otherKeys : List ℕ
@@ -71,6 +71,14 @@ pub when-not-done {ℓ} : {A : Type ℓ} (a : Answer) (x y : A) → isDone a ≡
 unfolding whenDone
 when-not-done a x y e = when-false x y (isDone a) e
 
+-- two choices by one answer are alike where they are alike if it is done
+pub when-done-alike : {A : Type 0} (a : Answer) (x y z : A) → (a ≡ Done → x ≡ y) → whenDone a x z ≡ whenDone a y z
+unfolding whenDone
+when-done-alike a x y z e = by (isDone a) (λ t. e (is-done a t))
+  where
+    by : (b : Bool) → (b ≡ true → x ≡ y) → when b x z ≡ when b y z
+    by b p = when-holds (λ (v : _). v ≡ when b y z) b x z (λ t. p t ∙ sym (when-true y z b t)) (λ t. sym (when-false y z b t))
+
 -- the case that has a number and a value
 untold : Told → Answer
 untold t =
@@ -112,3 +120,8 @@ outcome-kept make a p x y e k = rw (← e) (ap (make (told a)) (sym (when-not-do
 
 pub outcome-done : {A Out : Type 0} (make : Told → A → Out) (a p : Answer) (x y : A) → a ≡ p → a ≡ Done → make (told a) x ≡ make (told p) (whenDone p x y)
 outcome-done make a p x y e d = rw (← e) (ap (make (told a)) (sym (when-done a x y d)))
+
+-- whether it was done or not, a call answers what it decided on
+pub answer-told : {Out : Type 0} (answer : Out → Told) (a : Answer) (x y : Out) → answer x ≡ told Done → answer y ≡ told a → answer (whenDone a x y) ≡ told a
+unfolding whenDone
+answer-told answer a x y e f = when-holds (λ (o : _). answer o ≡ told a) (isDone a) x y (λ t. e ∙ ap told (sym (is-done a t))) (λ t. f)

@@ -11,6 +11,12 @@ pub when-false {ℓ} : {A : Type ℓ} (x y : A) (b : Bool) → b ≡ false → w
 unfolding when
 when-false x y b e = rw e
 
+-- what holds of the side that is chosen holds of the choice
+pub when-holds {ℓ ℓ′} : {A : Type ℓ} (P : A → Type ℓ′) (b : Bool) (x y : A) → (b ≡ true → P x) → (b ≡ false → P y) → P (when b x y)
+unfolding when
+when-holds P true x y p q = p refl
+when-holds P false x y p q = q refl
+
 -- a choice of a thing with itself
 pub when-same {ℓ} : {A : Type ℓ} (x : A) (b : Bool) → when b x x ≡ x
 unfolding when

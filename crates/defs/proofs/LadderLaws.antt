@@ -2,18 +2,21 @@
 use Prim.Native.Nat.{ℕ, zero, suc, _<_, _≤_}
 use mathlib.Core.Path.{_≡_, refl, sym, ap, subst, _∙_}
 use mathlib.Core.Logic.{⊎-elim}
-use mathlib.Core.Bool.{Bool, true, false, not}
+use mathlib.Core.Bool.{Bool, true, false}
 use mathlib.Core.List.{List, [], _∷_}
 use native.Mathlib.Omega.{arith}
 use native.Mathlib.Nat.{not-suc-le-zero, le-of-suc-le-suc}
 use lib.ListN.{getD}
+use borrow.Author.Tests.{not-false}
 use Rattle.defs.specs.Choice.{when}
-use Rattle.defs.specs.Answer.{told, isDone, whenDone}
-use Rattle.defs.specs.Ladder.{doorOf, lateOf, lowestOf, recordAnswer, clockAnswer}
-use Rattle.defs.specs.Limits.{isClock}
-use Rattle.defs.specs.Promises.{LowestRow, LowestNumber}
+use Rattle.defs.specs.Answer.{Told, told, isDone, whenDone}
+use Rattle.defs.specs.Ladder.{doorOf, lateOf, lowestOf, recordAnswer}
+use Rattle.defs.specs.Stream.{stoppedBy, stops}
+use Rattle.defs.specs.Promises.{LowestRow, AnswersBy, LowestNumber}
 use Rattle.defs.specs.declared.answer.Answer.{Answer}
 use Rattle.defs.specs.declared.answer.Answer.the-variants.{Done}
+use Rattle.defs.specs.declared.stream.StreamAnswer.{StreamAnswer}
+use Rattle.defs.specs.declared.stream.StreamAnswer.the-variants.{Count, WouldBlock, Failed}
 use Rattle.defs.proofs.AnswerLaws.{NotDone, not-done, is-done, done-is-done, when-done, when-not-done}
 use Rattle.defs.proofs.Basics.{never, lt-or-ge, true-or-false}
 
@@ -22,7 +25,7 @@ abbrev up : ℕ → ℕ
 up zero = zero
 up (suc n) = suc (suc n)
 
-abbrev firstRow : List Bool → ℕ
+abbrev pub firstRow : List Bool → ℕ
 firstRow [] = 0
 firstRow (true ∷ ts) = 1
 firstRow (false ∷ ts) = up (firstRow ts)
@@ -62,22 +65,46 @@ one-lowest ts (suc n) (suc k) p q =
     ⊎-elim (λ (m : k < n). absurd (clash _ (p .1 k m) (q .0))) (λ (m : n ≤ k). omega arith) (lt-or-ge k n))
     (lt-or-ge n k)
 
-ladder-is-first : (r h c l a m : Bool)
-    → told (lowestOf (doorOf r h c l) (lateOf a m)) .number ≡ firstRow (r ∷ h ∷ c ∷ l ∷ a ∷ m ∷ [])
+-- where a number is that of the first row whose test holds
+pub by-first-row : (t : Told) (tests : List Bool) → t .number ≡ firstRow tests → AnswersBy t tests
+by-first-row t tests e n =
+    (λ p. subst (λ (k : ℕ). LowestRow tests k) (sym e ∙ p) (first-is-lowest tests), λ q. e ∙ one-lowest tests _ n (first-is-lowest tests) q)
+
+-- what comes after door and late rungs decides where these pass
+pub ladder-then : (r h c l a m : Bool) (end : Answer) (rest : List Bool) → told end .number ≡ firstRow (false ∷ false ∷ false ∷ false ∷ false ∷ false ∷ rest)
+    → told (lowestOf (lowestOf (doorOf r h c l) (lateOf a m)) end) .number ≡ firstRow (r ∷ h ∷ c ∷ l ∷ a ∷ m ∷ rest)
 unfolding lowestOf doorOf lateOf whenDone isDone when
-ladder-is-first true h c l a m = refl
-ladder-is-first false true c l a m = refl
-ladder-is-first false false true l a m = refl
-ladder-is-first false false false true a m = refl
-ladder-is-first false false false false true m = refl
-ladder-is-first false false false false false true = refl
-ladder-is-first false false false false false false = refl
+ladder-then true h c l a m end rest e = refl
+ladder-then false true c l a m end rest e = refl
+ladder-then false false true l a m end rest e = refl
+ladder-then false false false true a m end rest e = refl
+ladder-then false false false false true m end rest e = refl
+ladder-then false false false false false true end rest e = refl
+ladder-then false false false false false false end rest e = e
+
+-- number 10, of a call that makes one write
+pub stop-number : (a : StreamAnswer) → told (stoppedBy a) .number ≡ firstRow (false ∷ false ∷ false ∷ false ∷ false ∷ false ∷ false ∷ false ∷ false ∷ stops a ∷ [])
+stop-number (Count n) = refl
+stop-number WouldBlock = refl
+stop-number Failed = refl
+
+pub lowest-done : (q : Answer) → lowestOf Done q ≡ q
+unfolding lowestOf
+lowest-done q = when-done Done q Done refl
+
+pub lowest-refused : (p q : Answer) → isDone p ≡ false → lowestOf p q ≡ p
+unfolding lowestOf
+lowest-refused p q n = when-not-done p q p n
+
+pub lowest-end : (p : Answer) → lowestOf p Done ≡ p
+lowest-end p =
+    ⊎-elim
+    (λ (t : isDone p ≡ true). let d = is-done p t in rw d (lowest-done Done))
+    (λ (t : isDone p ≡ false). lowest-refused p Done t)
+    (true-or-false (isDone p))
 
 pub lowest-number : LowestNumber
-lowest-number r h c l a m n =
-    let ts : List Bool = r ∷ h ∷ c ∷ l ∷ a ∷ m ∷ [] in
-    let e = ladder-is-first r h c l a m in
-    (λ p. subst (λ (k : ℕ). LowestRow ts k) (sym e ∙ p) (first-is-lowest ts), λ q. e ∙ one-lowest ts _ n (first-is-lowest ts) q)
+lowest-number r h c l a m = by-first-row (told (lowestOf (doorOf r h c l) (lateOf a m))) _ (ap (λ (x : Answer). told x .number) (sym (lowest-end _)) ∙ ladder-then r h c l a m Done [] refl)
 
 -- ---- for callers: what a part that passed or refused says
 
@@ -126,12 +153,7 @@ late-passed true n e = refused _ e (omega arith)
 late-passed false true e = refused _ e (omega arith)
 late-passed false false e = record { answer-ok = refl; room-ok = refl }
 
--- the answer of a call that tests nothing but its record
-pub record-answer : (a : Answer) (t s : Bool) → a ≡ doorOf (not t) false false false → t ≡ s → a ≡ recordAnswer s
+-- a record whose answer is Done is sound
+pub record-passed : (a : Answer) (sound : Bool) → a ≡ recordAnswer sound → a ≡ Done → sound ≡ true
 unfolding recordAnswer
-record-answer a t s e f = e ∙ ap (λ (x : Bool). doorOf (not x) false false false) f
-
--- the answer of a call that tests its record and its clock
-pub clock-answer : (a : Answer) (t s u : Bool) (ms : ℕ) → a ≡ doorOf (not t) false (not u) false → t ≡ s → u ≡ isClock ms → a ≡ clockAnswer s ms
-unfolding clockAnswer
-clock-answer a t s u ms e f g = e ∙ ap (λ (x : Bool). doorOf (not x) false (not u) false) f ∙ ap (λ (x : Bool). doorOf (not s) false (not x) false) g
+record-passed a sound e d = not-false sound (door-passed _ _ _ _ (sym e ∙ d) .record-ok)

@@ -2,6 +2,7 @@ pub mod Basics
 pub mod ChoiceLaws
 pub mod AnswerLaws
 pub mod LadderLaws
+pub mod LookLaws
 pub mod StreamLaws
 pub mod LimitLaws
 pub mod WrappingLaws

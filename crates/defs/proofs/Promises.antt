@@ -35,8 +35,7 @@ edges-hold = record { e = (refl, (refl, (refl, tt))); h = (refl, tt) }
 pub each-call-pinned : EachCallPinned
 each-call-pinned = record {
   number-of = by-equation _ _ _;
-  count-of = by-equation _ _ _;
-  read-count = by-equation _ _ _;
+  has-failed = by-equation _ _ _;
   stopped-by = by-equation _ _ _;
   is-ring-size = by-equation _ _ _;
   is-threshold = by-equation _ _ _;
@@ -50,6 +49,10 @@ each-call-pinned = record {
   door = by-equation _ _ _;
   late = by-equation _ _ _;
   lowest = by-equation _ _ _;
+  record-answer = by-equation _ _ _;
+  clock-answer = by-equation _ _ _;
+  flag-of = by-equation _ _ _;
+  len-of = by-equation _ _ _;
   wrapping-add = by-equation _ _ _;
   wrapping-sub = by-equation _ _ _;
   peer-avail-credit = by-equation _ _ _;

@@ -27,11 +27,11 @@ takes-none (Count n) k = absurd (miss otherKeys 0 tt k)
 takes-none WouldBlock k = refl
 takes-none Failed k = refl
 
-pub stops : (a : StreamAnswer) → NotCount a → isDone (stoppedBy a) ≡ false
+pub not-count-stops : (a : StreamAnswer) → NotCount a → isDone (stoppedBy a) ≡ false
 unfolding isDone
-stops (Count n) k = absurd (miss otherKeys 0 tt k)
-stops WouldBlock k = refl
-stops Failed k = refl
+not-count-stops (Count n) k = absurd (miss otherKeys 0 tt k)
+not-count-stops WouldBlock k = refl
+not-count-stops Failed k = refl
 
 -- what does not end a call as done takes nothing
 pub stopped-takes-none : (a : StreamAnswer) → isDone (stoppedBy a) ≡ false → counted a ≡ 0

@@ -3,6 +3,7 @@ pub mod Answer
 pub mod Stream
 pub mod Limits
 pub mod Ladder
+pub mod Look
 pub mod Wrapping
 pub mod Credit
 pub mod Copying

@@ -4,10 +4,11 @@ use mathlib.Core.Path.{_≡_}
 use mathlib.Core.Bool.{Bool, true, false}
 use mathlib.Core.List.{List, [], _∷_}
 use lib.ListN.{getD}
-use Rattle.defs.specs.Answer.{told}
-use Rattle.defs.specs.Stream.{counted, readCounted, stoppedBy}
+use Rattle.defs.specs.Answer.{Told, told}
+use Rattle.defs.specs.Stream.{failed, stoppedBy}
 use Rattle.defs.specs.Limits.{minRing, maxRing, isRingSize, isThreshold, isTimeout, isRxqLimit, isKillqLimit, isSlotCount, isClock, isPacketLength, isHeaderLength}
-use Rattle.defs.specs.Ladder.{doorOf, lateOf, lowestOf}
+use Rattle.defs.specs.Ladder.{doorOf, lateOf, lowestOf, recordAnswer, clockAnswer}
+use Rattle.defs.specs.Look.{FlagLeft, FlagSays, LenLeft, LenSays}
 use Rattle.defs.specs.Wrapping.{wadd, wsub}
 use Rattle.defs.specs.Credit.{peerAvailCredit, peerNeedsCreditUpdate}
 use Rattle.defs.specs.Copying.{copied}
@@ -16,7 +17,6 @@ use Rattle.defs.specs.Reading.{Hold}
 use Rattle.defs.specs.Edges.{readingE, readingH}
 use Rattle.defs.specs.declared.answer.Answer.{Answer}
 use Rattle.defs.specs.declared.stream.StreamAnswer.{StreamAnswer}
-use Rattle.defs.specs.declared.stream.ReadAnswer.{ReadAnswer}
 
 -- each of the two facts holds where the other does
 abbrev pub Exactly : Type 0 → Type 0 → Type 0
@@ -31,11 +31,13 @@ abbrev pub LowestRow : List Bool → ℕ → Type 0
 LowestRow tests zero = (m : ℕ) → getD tests m false ≡ false
 LowestRow tests (suc n) = (getD tests n false ≡ true) × ((m : ℕ) → m < n → getD tests m false ≡ false)
 
--- 01's "given exactly when" and "several at once: the lowest number", for rows 1 to 6
+-- 01's "given exactly when" and "several at once: the lowest number", by the tests of the rows
+abbrev pub AnswersBy : Told → List Bool → Type 0
+AnswersBy t tests = (n : ℕ) → Exactly (t .number ≡ n) (LowestRow tests n)
+
+-- the ladder does so, rows 1 to 6
 abbrev pub LowestNumber : Type 0
-LowestNumber =
-    (r h c l a m : Bool) (n : ℕ)
-    → Exactly (told (lowestOf (doorOf r h c l) (lateOf a m)) .number ≡ n) (LowestRow (r ∷ h ∷ c ∷ l ∷ a ∷ m ∷ []) n)
+LowestNumber = (r h c l a m : Bool) → AnswersBy (told (lowestOf (doorOf r h c l) (lateOf a m))) (r ∷ h ∷ c ∷ l ∷ a ∷ m ∷ [])
 
 -- a power of two
 abbrev pub PowerOfTwo : ℕ → Type 0
@@ -71,8 +73,7 @@ pub record EdgesHold : Type 0 where
 -- every public call: any two outcomes that meet its contract are identical
 pub record EachCallPinned : Type 0 where
   pub number-of : Pinned Answer ℕ (λ a r. r ≡ told a .number)
-  pub count-of : Pinned StreamAnswer ℕ (λ a r. r ≡ counted a)
-  pub read-count : Pinned ReadAnswer ℕ (λ a r. r ≡ readCounted a)
+  pub has-failed : Pinned StreamAnswer Bool (λ a r. r ≡ failed a)
   pub stopped-by : Pinned StreamAnswer Answer (λ a r. r ≡ stoppedBy a)
   pub is-ring-size : Pinned ℕ Bool (λ n r. r ≡ isRingSize n)
   pub is-threshold : Pinned (ℕ × ℕ) Bool (λ i r. r ≡ isThreshold (i .0) (i .1))
@@ -86,6 +87,10 @@ pub record EachCallPinned : Type 0 where
   pub door : Pinned (Bool × Bool × Bool × Bool) Answer (λ i r. r ≡ doorOf (i .0) (i .1) (i .2) (i .3))
   pub late : Pinned (Bool × Bool) Answer (λ i r. r ≡ lateOf (i .0) (i .1))
   pub lowest : Pinned (Answer × Answer) Answer (λ i r. r ≡ lowestOf (i .0) (i .1))
+  pub record-answer : Pinned Bool Answer (λ sound r. r ≡ recordAnswer sound)
+  pub clock-answer : Pinned (Bool × ℕ) Answer (λ i r. r ≡ clockAnswer (i .0) (i .1))
+  pub flag-of : Pinned (Answer × Bool) FlagLeft (λ i left. FlagSays (i .0) (i .1) left)
+  pub len-of : Pinned (Answer × ℕ) LenLeft (λ i left. LenSays (i .0) (i .1) left)
   pub wrapping-add : Pinned (ℕ × ℕ) ℕ (λ i r. r ≡ wadd (i .0) (i .1))
   pub wrapping-sub : Pinned (ℕ × ℕ) ℕ (λ i r. r ≡ wsub (i .0) (i .1))
   pub peer-avail-credit : Pinned (ℕ × ℕ × ℕ) ℕ (λ i r. r ≡ peerAvailCredit (i .0) (i .1) (i .2))

@@ -1,7 +1,7 @@
 // What the host's stream answers to a write or a read. The caller tries the stream and hands the
 // answer in (01, "What must take another shape": a boxed stream becomes answers).
 ghost use mathlib.Core.Path.{_≡_};
-ghost use Rattle.defs.specs.Stream.{counted, readCounted, stoppedBy};
+ghost use Rattle.defs.specs.Stream.{failed, stoppedBy};
 use crate::answer::Answer;
 
 pub enum StreamAnswer {
@@ -24,24 +24,14 @@ pub struct StreamAnswers {
     pub second: StreamAnswer,
 }
 
-// How many bytes an answer takes.
-pub fn count_of(answer: StreamAnswer) -> usize
-    ensures { λ r. ⌜ r ≡ counted answer ⌝ }
+pub fn has_failed(answer: StreamAnswer) -> bool
+    ensures { λ r. ⌜ r ≡ failed answer ⌝ }
 {
-    let StreamAnswer::Count(count) = answer else {
-        return 0;
-    };
-    count
-}
-
-// How many bytes the answer to a read brings.
-pub fn read_count(answer: ReadAnswer) -> usize
-    ensures { λ r. ⌜ r ≡ readCounted answer ⌝ }
-{
-    let ReadAnswer::Count(count) = answer else {
-        return 0;
-    };
-    count
+    match answer {
+        StreamAnswer::Count(_) => false,
+        StreamAnswer::WouldBlock => false,
+        StreamAnswer::Failed => true,
+    }
 }
 
 // How a direct call ends by the answer to its first write: done, or number 10 of either kind.

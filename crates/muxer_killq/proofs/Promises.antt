@@ -1,6 +1,5 @@
 -- The promises of specs/Promises, each by its law. Assumes nothing.
 use Rattle.defs.proofs.Pins.{by-equation}
-use Rattle.muxer_killq.specs.Item.{zeroItem}
 use Rattle.muxer_killq.specs.Promises.{QueueIsItsList, EverySortIsStable, EdgesHold, EachCallPinned}
 use Rattle.muxer_killq.proofs.Edges as edges
 use Rattle.muxer_killq.proofs.QueueLaws as queues
@@ -27,8 +26,4 @@ each-call-pinned = record {
   is-synced = by-equation _ _ _;
   is-empty = by-equation _ _ _;
   is-full = by-equation _ _ _;
-  zero-item = by-equation _ _ (λ i. zeroItem);
-  is-zero = by-equation _ _ _;
-  empty = by-equation _ _ _;
-  pop-answer = by-equation _ _ _;
 }

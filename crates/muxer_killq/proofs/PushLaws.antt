@@ -14,7 +14,7 @@ use Rattle.defs.proofs.AnswerLaws.{NotDone}
 use Rattle.conn_map.specs.Places.{hasRoom}
 use Rattle.conn_map.specs.Queued.{QueuedLeft}
 use Rattle.conn_map.specs.declared.key.ConnMapKey.{ConnMapKey}
-use Rattle.conn_map.proofs.LookLaws.{record-passed}
+use Rattle.defs.proofs.LadderLaws.{record-passed}
 use Rattle.conn_map.proofs.QueuedLaws.{called-kept, called-done}
 use Rattle.conn_map.proofs.PlacesLaws.{room-is, room-within, appended, one-more}
 use Rattle.muxer_killq.specs.Item.{zeroItem}

@@ -5,15 +5,15 @@ use mathlib.Core.Bool.{Bool, true}
 use mathlib.Core.List.{List, [], _∷_}
 use lib.Dec.{eqb}
 use lib.ListN.{length}
-use Rattle.defs.specs.Ladder.{clockAnswer}
+use Rattle.defs.specs.Ladder.{recordAnswer}
 use Rattle.defs.specs.Limits.{maxKillq, isKillqLimit}
 use Rattle.defs.specs.Pinned.{Pinned}
 use Rattle.defs.specs.Reading.{Hold}
-use Rattle.defs.specs.declared.answer.Answer.{Answer}
 use Rattle.conn_map.specs.Table.{chosen}
-use Rattle.conn_map.specs.Look.{FlagLeft, FlagSays, PeekLeft}
+use Rattle.defs.specs.Look.{FlagLeft, FlagSays}
+use Rattle.conn_map.specs.Look.{PeekLeft}
 use Rattle.conn_map.specs.Queued.{QueuedLeft}
-use Rattle.muxer_killq.specs.Item.{zeroItem, isZero, isAlike}
+use Rattle.muxer_killq.specs.Item.{isAlike}
 use Rattle.muxer_killq.specs.Queue.{soundQ, items, pack, NewSays}
 use Rattle.muxer_killq.specs.Push.{PushIn, PushSays}
 use Rattle.muxer_killq.specs.Pop.{PeekSays, PopIn, PopLeft, PopSays}
@@ -63,10 +63,6 @@ pub record EachCallPinned : Type 0 where
   pub pop : Pinned PopIn PopLeft PopSays
   pub eq : Pinned (MuxerKillQItem × MuxerKillQItem) Bool (λ i r. r ≡ isAlike (i .0) (i .1))
   pub is-sound : Pinned MuxerKillQ Bool (λ q r. r ≡ soundQ q)
-  pub is-synced : Pinned MuxerKillQ FlagLeft (λ q left. FlagSays (soundQ q) (q .synced) left)
-  pub is-empty : Pinned MuxerKillQ FlagLeft (λ q left. FlagSays (soundQ q) (eqb (length (items q)) 0) left)
-  pub is-full : Pinned MuxerKillQ FlagLeft (λ q left. FlagSays (soundQ q) (eqb (length (items q)) (q .limit)) left)
-  pub zero-item : Pinned Unit MuxerKillQItem (λ i r. r ≡ zeroItem)
-  pub is-zero : Pinned MuxerKillQItem Bool (λ it r. r ≡ isZero it)
-  pub empty : Pinned ℕ MuxerKillQ (λ limit r. r ≡ pack [] limit true)
-  pub pop-answer : Pinned (Bool × ℕ) Answer (λ i r. r ≡ clockAnswer (i .0) (i .1))
+  pub is-synced : Pinned MuxerKillQ FlagLeft (λ q left. FlagSays (recordAnswer (soundQ q)) (q .synced) left)
+  pub is-empty : Pinned MuxerKillQ FlagLeft (λ q left. FlagSays (recordAnswer (soundQ q)) (eqb (length (items q)) 0) left)
+  pub is-full : Pinned MuxerKillQ FlagLeft (λ q left. FlagSays (recordAnswer (soundQ q)) (eqb (length (items q)) (q .limit)) left)

@@ -20,7 +20,7 @@ impl MuxerKillQItem {
     }
 }
 
-pub fn zero_item() -> MuxerKillQItem
+pub(crate) fn zero_item() -> MuxerKillQItem
     ensures { λ r. ⌜ r ≡ zeroItem ⌝ }
 {
     MuxerKillQItem {
@@ -30,7 +30,7 @@ pub fn zero_item() -> MuxerKillQItem
     }
 }
 
-pub fn is_zero(it: MuxerKillQItem) -> bool
+pub(crate) fn is_zero(it: MuxerKillQItem) -> bool
     ensures { λ r. ⌜ r ≡ isZero it ⌝ }
 {
     (it.local_port == 0) & (it.peer_port == 0) & (it.kill_time == 0)

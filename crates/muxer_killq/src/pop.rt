@@ -3,7 +3,6 @@ ghost use mathlib.Core.Path.{_≡_};
 ghost use Prim.Native.Nat.{_<_};
 ghost use mathlib.Core.Bool.{true};
 ghost use lib.ListN.{drop};
-ghost use Rattle.defs.specs.Ladder.{clockAnswer};
 ghost use Rattle.defs.specs.Answer.{told};
 ghost use Rattle.conn_map.specs.Look.{PeekLeft};
 ghost use Rattle.muxer_killq.specs.Item.{zeroItem};
@@ -14,7 +13,6 @@ use crate::item::zero_item;
 use crate::queue::MuxerKillQ;
 use conn_map::ConnMapKey;
 use defs::Answer;
-use defs::limits;
 
 // `item` is the zero item where none was found.
 pub struct Peeked {
@@ -37,7 +35,7 @@ impl MuxerKillQ {
         ensures { λ r. ⌜ PeekSays self (record { answer = told (r .answer); found = r .found; item = r .item }) ⌝ }
     {
         let none = zero_item();
-        let answer = conn_map::record_answer(self.is_sound());
+        let answer = defs::record_answer(self.is_sound());
         let Answer::Done = answer else {
             return Peeked {
                 answer,
@@ -65,7 +63,7 @@ impl MuxerKillQ {
         ensures { λ r. ⌜ PopSays (record { queue = self; clock = clock }) (record { answer = told (r .answer); found = r .found; key = r .key; queue = r .queue }) ⌝ }
     {
         let none = no_key();
-        let answer = pop_answer(self.is_sound(), clock);
+        let answer = defs::clock_answer(self.is_sound(), clock);
         let Answer::Done = answer else {
             return Popped {
                 answer,
@@ -95,12 +93,6 @@ impl MuxerKillQ {
             queue: self,
         }
     }
-}
-
-pub fn pop_answer(sound: bool, clock: u64) -> Answer
-    ensures { λ r. ⌜ r ≡ clockAnswer sound clock ⌝ }
-{
-    defs::door(!sound, false, !limits::is_clock(clock), false)
 }
 
 fn no_key() -> ConnMapKey

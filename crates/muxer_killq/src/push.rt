@@ -13,7 +13,7 @@ impl MuxerKillQ {
     pub fn push(self, key: ConnMapKey, kill_time: u64) -> Queued
         ensures { λ r. ⌜ PushSays (record { queue = self; key = key; «kill_time» = «kill_time» }) (record { answer = told (r .answer); queue = r .queue }) ⌝ }
     {
-        let answer = conn_map::record_answer(self.is_sound());
+        let answer = defs::record_answer(self.is_sound());
         let Answer::Done = answer else {
             return Queued {
                 answer,

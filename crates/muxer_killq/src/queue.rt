@@ -5,15 +5,16 @@ ghost use mathlib.Core.List.{[]};
 ghost use lib.ListN.{drop, length};
 ghost use lib.Dec.{eqb};
 ghost use Rattle.defs.specs.Answer.{told};
+ghost use Rattle.defs.specs.Ladder.{recordAnswer};
+ghost use Rattle.defs.specs.Look.{FlagLeft, FlagSays};
 ghost use Rattle.conn_map.specs.Places.{all};
-ghost use Rattle.conn_map.specs.Look.{FlagLeft, FlagSays};
 ghost use Rattle.conn_map.specs.Queued.{QueuedLeft};
 ghost use Rattle.muxer_killq.specs.Item.{isZero};
 ghost use Rattle.muxer_killq.specs.Queue.{soundQ, items, pack, NewSays};
 use crate::item::MuxerKillQItem;
 use crate::item::is_zero;
-use conn_map::Flag;
 use defs::Answer;
+use defs::Flag;
 use defs::limits;
 use defs::limits::MAX_KILLQ_SIZE;
 
@@ -35,7 +36,7 @@ impl MuxerKillQ {
     pub fn new(limit: usize) -> Queued
         ensures { λ r. ⌜ NewSays limit (record { answer = told (r .answer); queue = r .queue }) ⌝ }
     {
-        let answer = conn_map::record_answer(limits::is_killq_limit(limit));
+        let answer = defs::record_answer(limits::is_killq_limit(limit));
         let Answer::Done = answer else {
             return Queued {
                 answer,
@@ -55,26 +56,26 @@ impl MuxerKillQ {
     }
 
     pub fn is_synced(self) -> Flag
-        ensures { λ r. ⌜ FlagSays (soundQ self) (self .synced) (record { answer = told (r .answer); holds = r .holds }) ⌝ }
+        ensures { λ r. ⌜ FlagSays (recordAnswer (soundQ self)) (self .synced) (record { answer = told (r .answer); holds = r .holds }) ⌝ }
     {
-        conn_map::flag_of(self.is_sound(), self.synced)
+        defs::flag_of(defs::record_answer(self.is_sound()), self.synced)
     }
 
     pub fn is_empty(self) -> Flag
-        ensures { λ r. ⌜ FlagSays (soundQ self) (eqb (length (items self)) 0) (record { answer = told (r .answer); holds = r .holds }) ⌝ }
+        ensures { λ r. ⌜ FlagSays (recordAnswer (soundQ self)) (eqb (length (items self)) 0) (record { answer = told (r .answer); holds = r .holds }) ⌝ }
     {
-        conn_map::flag_of(self.is_sound(), self.len == 0)
+        defs::flag_of(defs::record_answer(self.is_sound()), self.len == 0)
     }
 
     pub fn is_full(self) -> Flag
-        ensures { λ r. ⌜ FlagSays (soundQ self) (eqb (length (items self)) (self .limit)) (record { answer = told (r .answer); holds = r .holds }) ⌝ }
+        ensures { λ r. ⌜ FlagSays (recordAnswer (soundQ self)) (eqb (length (items self)) (self .limit)) (record { answer = told (r .answer); holds = r .holds }) ⌝ }
     {
-        conn_map::flag_of(self.is_sound(), self.len == self.limit)
+        defs::flag_of(defs::record_answer(self.is_sound()), self.len == self.limit)
     }
 }
 
 // An empty, synced queue.
-pub fn empty(limit: usize) -> MuxerKillQ
+pub(crate) fn empty(limit: usize) -> MuxerKillQ
     ensures { λ r. ⌜ r ≡ pack [] limit true ⌝ }
 {
     let zero = MuxerKillQItem {

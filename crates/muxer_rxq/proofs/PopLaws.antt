@@ -10,7 +10,7 @@ use Rattle.defs.specs.Limits.{maxRxq}
 use Rattle.defs.specs.declared.answer.Answer.{Answer}
 use Rattle.defs.specs.declared.answer.Answer.the-variants.{Done}
 use Rattle.defs.proofs.AnswerLaws.{NotDone, not-done, when-done, when-not-done}
-use Rattle.conn_map.proofs.LookLaws.{record-passed}
+use Rattle.defs.proofs.LadderLaws.{record-passed}
 use Rattle.conn_map.proofs.PlacesLaws.{none-held, front-first, one-less, moved-up}
 use Rattle.muxer_rxq.specs.Queue.{zeroItem, soundQ, items, pack}
 use Rattle.muxer_rxq.specs.Pop.{PopLeft, popList, popOf}

@@ -1,6 +1,5 @@
 -- The promises of specs/Promises, each by its law. Assumes nothing.
 use Rattle.defs.proofs.Pins.{by-equation}
-use Rattle.muxer_rxq.specs.Queue.{zeroItem}
 use Rattle.muxer_rxq.specs.Promises.{QueueIsItsList, EdgesHold, EachCallPinned}
 use Rattle.muxer_rxq.proofs.Edges as edges
 use Rattle.muxer_rxq.proofs.QueueLaws as queues
@@ -23,6 +22,4 @@ each-call-pinned = record {
   len = by-equation _ _ _;
   is-empty = by-equation _ _ _;
   is-full = by-equation _ _ _;
-  zero-item = by-equation _ _ (λ i. zeroItem);
-  empty = by-equation _ _ _;
 }

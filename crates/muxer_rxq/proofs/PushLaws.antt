@@ -18,7 +18,7 @@ use Rattle.defs.proofs.ChoiceLaws.{when-true, when-false}
 use Rattle.defs.proofs.AnswerLaws.{NotDone}
 use Rattle.conn_map.specs.Places.{hasRoom}
 use Rattle.conn_map.specs.Queued.{QueuedLeft}
-use Rattle.conn_map.proofs.LookLaws.{record-passed}
+use Rattle.defs.proofs.LadderLaws.{record-passed}
 use Rattle.conn_map.proofs.QueuedLaws.{called-kept, called-done}
 use Rattle.conn_map.proofs.PlacesLaws.{positive, room-is, room-within, appended, one-more, replaced, as-many}
 use Rattle.muxer_rxq.specs.Queue.{zeroItem, soundQ, items, pack}

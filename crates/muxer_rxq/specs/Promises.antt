@@ -2,15 +2,17 @@
 use Prim.Native.Nat.{ℕ, _≤_}
 use mathlib.Core.Path.{_≡_}
 use mathlib.Core.Bool.{Bool, true}
-use mathlib.Core.List.{List, []}
+use mathlib.Core.List.{List}
 use lib.Dec.{eqb}
 use lib.ListN.{length}
 use Rattle.defs.specs.Limits.{maxRxq, isRxqLimit}
 use Rattle.defs.specs.Pinned.{Pinned}
 use Rattle.defs.specs.Reading.{Hold}
-use Rattle.conn_map.specs.Look.{FlagLeft, FlagSays, LenLeft, LenSays, PeekLeft}
+use Rattle.defs.specs.Ladder.{recordAnswer}
+use Rattle.defs.specs.Look.{FlagLeft, FlagSays, LenLeft, LenSays}
+use Rattle.conn_map.specs.Look.{PeekLeft}
 use Rattle.conn_map.specs.Queued.{QueuedLeft}
-use Rattle.muxer_rxq.specs.Queue.{soundQ, items, pack, NewSays, zeroItem}
+use Rattle.muxer_rxq.specs.Queue.{soundQ, items, pack, NewSays}
 use Rattle.muxer_rxq.specs.Push.{PushIn, PushSays}
 use Rattle.muxer_rxq.specs.Pop.{PeekSays, PopLeft, PopSays}
 use Rattle.muxer_rxq.specs.Build.{BuildIn, BuildSays}
@@ -36,9 +38,7 @@ pub record EachCallPinned : Type 0 where
   pub peek : Pinned MuxerRxQ (PeekLeft MuxerRx) PeekSays
   pub pop : Pinned MuxerRxQ PopLeft PopSays
   pub is-sound : Pinned MuxerRxQ Bool (λ q r. r ≡ soundQ q)
-  pub is-synced : Pinned MuxerRxQ FlagLeft (λ q left. FlagSays (soundQ q) (q .synced) left)
-  pub len : Pinned MuxerRxQ LenLeft (λ q left. LenSays (soundQ q) (length (items q)) left)
-  pub is-empty : Pinned MuxerRxQ FlagLeft (λ q left. FlagSays (soundQ q) (eqb (length (items q)) 0) left)
-  pub is-full : Pinned MuxerRxQ FlagLeft (λ q left. FlagSays (soundQ q) (eqb (length (items q)) (q .limit)) left)
-  pub zero-item : Pinned Unit MuxerRx (λ i r. r ≡ zeroItem)
-  pub empty : Pinned ℕ MuxerRxQ (λ limit r. r ≡ pack [] limit true)
+  pub is-synced : Pinned MuxerRxQ FlagLeft (λ q left. FlagSays (recordAnswer (soundQ q)) (q .synced) left)
+  pub len : Pinned MuxerRxQ LenLeft (λ q left. LenSays (recordAnswer (soundQ q)) (length (items q)) left)
+  pub is-empty : Pinned MuxerRxQ FlagLeft (λ q left. FlagSays (recordAnswer (soundQ q)) (eqb (length (items q)) 0) left)
+  pub is-full : Pinned MuxerRxQ FlagLeft (λ q left. FlagSays (recordAnswer (soundQ q)) (eqb (length (items q)) (q .limit)) left)

@@ -22,7 +22,7 @@ impl MuxerRxQ {
     {
         let limited = limits::is_rxq_limit(limit);
         let sound = conn_map::is_sound(ports, used, pending.len());
-        let answer = conn_map::record_answer(limited & sound);
+        let answer = defs::record_answer(limited & sound);
         let Answer::Done = answer else {
             return Queued {
                 answer,

@@ -31,7 +31,7 @@ impl MuxerRxQ {
         ensures { λ r. ⌜ PeekSays self (record { answer = told (r .answer); found = r .found; item = r .item }) ⌝ }
     {
         let none = zero_item();
-        let answer = conn_map::record_answer(self.is_sound());
+        let answer = defs::record_answer(self.is_sound());
         let Answer::Done = answer else {
             return Peeked {
                 answer,
@@ -59,7 +59,7 @@ impl MuxerRxQ {
         ensures { λ r. ⌜ PopSays self (record { answer = told (r .answer); found = r .found; item = r .item; queue = r .queue }) ⌝ }
     {
         let none = zero_item();
-        let answer = conn_map::record_answer(self.is_sound());
+        let answer = defs::record_answer(self.is_sound());
         let Answer::Done = answer else {
             return Popped {
                 answer,

@@ -17,7 +17,7 @@ impl MuxerRxQ {
     pub fn push(self, rx: MuxerRx) -> Queued
         ensures { λ r. ⌜ PushSays (record { queue = self; rx = rx }) (record { answer = told (r .answer); queue = r .queue }) ⌝ }
     {
-        let answer = conn_map::record_answer(self.is_sound());
+        let answer = defs::record_answer(self.is_sound());
         let Answer::Done = answer else {
             return Queued {
                 answer,

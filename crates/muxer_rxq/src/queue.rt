@@ -5,13 +5,14 @@ ghost use mathlib.Core.List.{[]};
 ghost use lib.ListN.{drop, length};
 ghost use lib.Dec.{eqb};
 ghost use Rattle.defs.specs.Answer.{told};
+ghost use Rattle.defs.specs.Ladder.{recordAnswer};
+ghost use Rattle.defs.specs.Look.{FlagLeft, FlagSays, LenLeft, LenSays};
 ghost use Rattle.conn_map.specs.Places.{all};
-ghost use Rattle.conn_map.specs.Look.{FlagLeft, FlagSays, LenLeft, LenSays};
 ghost use Rattle.conn_map.specs.Queued.{QueuedLeft};
 ghost use Rattle.muxer_rxq.specs.Queue.{zeroItem, isZero, soundQ, items, pack, NewSays};
-use conn_map::Flag;
-use conn_map::Len;
 use defs::Answer;
+use defs::Flag;
+use defs::Len;
 use defs::limits;
 use defs::limits::MAX_RXQ_SIZE;
 
@@ -40,7 +41,7 @@ impl MuxerRxQ {
     pub fn new(limit: usize) -> Queued
         ensures { λ r. ⌜ NewSays limit (record { answer = told (r .answer); queue = r .queue }) ⌝ }
     {
-        let answer = conn_map::record_answer(limits::is_rxq_limit(limit));
+        let answer = defs::record_answer(limits::is_rxq_limit(limit));
         let Answer::Done = answer else {
             return Queued {
                 answer,
@@ -60,31 +61,31 @@ impl MuxerRxQ {
     }
 
     pub fn is_synced(self) -> Flag
-        ensures { λ r. ⌜ FlagSays (soundQ self) (self .synced) (record { answer = told (r .answer); holds = r .holds }) ⌝ }
+        ensures { λ r. ⌜ FlagSays (recordAnswer (soundQ self)) (self .synced) (record { answer = told (r .answer); holds = r .holds }) ⌝ }
     {
-        conn_map::flag_of(self.is_sound(), self.synced)
+        defs::flag_of(defs::record_answer(self.is_sound()), self.synced)
     }
 
     pub fn len(self) -> Len
-        ensures { λ r. ⌜ LenSays (soundQ self) (length (items self)) (record { answer = told (r .answer); len = r .len }) ⌝ }
+        ensures { λ r. ⌜ LenSays (recordAnswer (soundQ self)) (length (items self)) (record { answer = told (r .answer); len = r .len }) ⌝ }
     {
-        conn_map::len_of(self.is_sound(), self.len)
+        defs::len_of(defs::record_answer(self.is_sound()), self.len)
     }
 
     pub fn is_empty(self) -> Flag
-        ensures { λ r. ⌜ FlagSays (soundQ self) (eqb (length (items self)) 0) (record { answer = told (r .answer); holds = r .holds }) ⌝ }
+        ensures { λ r. ⌜ FlagSays (recordAnswer (soundQ self)) (eqb (length (items self)) 0) (record { answer = told (r .answer); holds = r .holds }) ⌝ }
     {
-        conn_map::flag_of(self.is_sound(), self.len == 0)
+        defs::flag_of(defs::record_answer(self.is_sound()), self.len == 0)
     }
 
     pub fn is_full(self) -> Flag
-        ensures { λ r. ⌜ FlagSays (soundQ self) (eqb (length (items self)) (self .limit)) (record { answer = told (r .answer); holds = r .holds }) ⌝ }
+        ensures { λ r. ⌜ FlagSays (recordAnswer (soundQ self)) (eqb (length (items self)) (self .limit)) (record { answer = told (r .answer); holds = r .holds }) ⌝ }
     {
-        conn_map::flag_of(self.is_sound(), self.len == self.limit)
+        defs::flag_of(defs::record_answer(self.is_sound()), self.len == self.limit)
     }
 }
 
-pub fn zero_item() -> MuxerRx
+pub(crate) fn zero_item() -> MuxerRx
     ensures { λ r. ⌜ r ≡ zeroItem ⌝ }
 {
     MuxerRx {
@@ -95,7 +96,7 @@ pub fn zero_item() -> MuxerRx
 }
 
 // An empty, synced queue.
-pub fn empty(limit: usize) -> MuxerRxQ
+pub(crate) fn empty(limit: usize) -> MuxerRxQ
     ensures { λ r. ⌜ r ≡ pack [] limit true ⌝ }
 {
     let zero = MuxerRx {

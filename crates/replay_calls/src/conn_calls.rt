@@ -317,7 +317,7 @@ fn has_pending_rx(head: &[u8], storage: &[u8]) {
     let conn = conn_of(head);
     let flag = conn.has_pending_rx();
     let answer = flag.answer;
-    seen(head, answer, bit(flag.yes, 1), conn, storage);
+    seen(head, answer, bit(flag.holds, 1), conn, storage);
 }
 
 fn get_polled_evset(head: &[u8], storage: &[u8]) {
@@ -332,14 +332,14 @@ fn will_expire(head: &[u8], storage: &[u8]) {
     let conn = conn_of(head);
     let flag = conn.will_expire(frame::u64_at(head, 96));
     let answer = flag.answer;
-    seen(head, answer, bit(flag.yes, 1), conn, storage);
+    seen(head, answer, bit(flag.holds, 1), conn, storage);
 }
 
 fn has_expired(head: &[u8], storage: &[u8]) {
     let conn = conn_of(head);
     let flag = conn.has_expired(frame::u64_at(head, 96));
     let answer = flag.answer;
-    seen(head, answer, bit(flag.yes, 1), conn, storage);
+    seen(head, answer, bit(flag.holds, 1), conn, storage);
 }
 
 // The reply has what `expiry` says in place of the record.

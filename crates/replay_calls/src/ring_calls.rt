@@ -65,7 +65,7 @@ fn is_empty(head: &[u8], storage: &[u8], out: &[u8]) {
     let empty = ring.is_empty();
     let answer = empty.answer;
     let mut value = 0u64;
-    if empty.is_empty {
+    if empty.holds {
         value = 1;
     }
     write(head, answer, value, ring, storage, b"", out);

@@ -599,8 +599,8 @@ fn expiry(conn: VsockConnection, now_ms: u64) {
     let has = conn.has_expired(now_ms);
     let answer = will.answer;
     answered(answer);
-    yes(b" will", will.yes);
-    yes(b" has", has.yes);
+    yes(b" will", will.holds);
+    yes(b" has", has.holds);
     say(b"\n");
 }
 

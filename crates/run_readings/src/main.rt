@@ -286,9 +286,9 @@ fn reading_h() {
 // A kill time of 500: expired, by a connection's timer, and popped, by the kill queue.
 fn reading_i() {
     io::write_all(1, b"i expired at 499");
-    print_yes(timed(500).has_expired(499).yes);
+    print_yes(timed(500).has_expired(499).holds);
     io::write_all(1, b", at 500");
-    print_yes(timed(500).has_expired(500).yes);
+    print_yes(timed(500).has_expired(500).holds);
     let made = MuxerKillQ::new(2);
     let queue = made.queue;
     let pushed = queue.push(

@@ -105,7 +105,7 @@ fn look(ring: TxBuf, storage: &[u8]) {
     let empty = ring.is_empty();
     say(b"len ");
     number(len.len as u64);
-    if empty.is_empty {
+    if empty.holds {
         say(b"empty ");
     }
     say(b"first piece ");

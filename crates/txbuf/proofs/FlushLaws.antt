@@ -21,11 +21,11 @@ use Rattle.defs.specs.declared.answer.Answer.{Answer}
 use Rattle.defs.specs.declared.answer.Answer.the-variants.{Done, BadRecord, BadAnswer, NoRoom}
 use Rattle.defs.specs.declared.stream.StreamAnswer.{StreamAnswer}
 use Rattle.defs.specs.declared.stream.StreamAnswer.the-variants.{Count, WouldBlock, Failed}
-use Rattle.defs.proofs.StreamLaws.{NotCount, takes-none, stops, stopped-takes-none}
+use Rattle.defs.proofs.StreamLaws.{NotCount, takes-none, not-count-stops, stopped-takes-none}
 use Rattle.defs.proofs.Basics.{never, lt-or-ge, true-or-false, neither}
 use Rattle.defs.proofs.ChoiceLaws.{when-true, when-false, when-same}
 use Rattle.defs.proofs.AnswerLaws.{NotDone, not-done, is-done, done-is-done, when-done, when-not-done, told-tells-apart}
-use Rattle.defs.proofs.LadderLaws.{lowest-passed, door-passed, late-passed}
+use Rattle.defs.proofs.LadderLaws.{lowest-passed, door-passed, late-passed, lowest-done, lowest-refused, lowest-end}
 use Rattle.defs.proofs.CopyLaws.{copied-fits}
 use Rattle.defs.proofs.WrappingLaws.{keeps-place}
 use Rattle.txbuf.specs.Record.{Wide, usedOf, soundOf, heldFrom, held}
@@ -177,14 +177,6 @@ pub flush-is-done : (i : FlushIn) → flushAnswer i ≡ Done → flushOf i ≡ f
 unfolding flushOf
 flush-is-done i d = when-done (flushAnswer i) _ _ d
 
-lowest-done : (q : Answer) → lowestOf Done q ≡ q
-unfolding lowestOf
-lowest-done q = when-done Done q Done refl
-
-lowest-refused : (p q : Answer) → isDone p ≡ false → lowestOf p q ≡ p
-unfolding lowestOf
-lowest-refused p q n = when-not-done p q p n
-
 -- answer 1
 pub flush-unsound : (i : FlushIn) → soundOf (i .ring) (length (i .store)) ≡ false
     → _≡_ {A = FlushLeft} (record { answer = told BadRecord; count = 0; ring = i .ring; out = i .out }) (flushOf i)
@@ -211,13 +203,6 @@ late-over n = refl
 late-room : lateOf false true ≡ NoRoom
 unfolding lateOf when
 late-room = refl
-
-pub lowest-end : (p : Answer) → lowestOf p Done ≡ p
-lowest-end p =
-    ⊎-elim
-    (λ (t : isDone p ≡ true). let d = is-done p t in rw d (lowest-done Done))
-    (λ (t : isDone p ≡ false). lowest-refused p Done t)
-    (true-or-false (isDone p))
 
 ends-none : (n : ℕ) (a : StreamAnswer) → n ≡ 0 → endsBy n a ≡ Done
 unfolding endsBy
@@ -390,7 +375,7 @@ module _ (i : FlushIn) (s : Sound (i .ring) (length (i .store))) (w : Wide (i .r
         let n : eqb first-count offered ≡ false = ne-eqb first-count offered (λ (u : first-count ≡ offered). omega arith) in
         let c : flushCount i ≡ 0 = count-some l ∙ rw (when-false _ _ _ n) (omega arith) in
         let o : flushOver i ≡ false = over-some l ∙ rw (le-ltb offered first-count (omega arith), n) in
-        flush-refused i (stoppedBy (i .answers .first)) (none-taken o c ∙ ends-some held-now (i .answers .first) l) (stops (i .answers .first) k)
+        flush-refused i (stoppedBy (i .answers .first)) (none-taken o c ∙ ends-some held-now (i .answers .first) l) (not-count-stops (i .answers .first) k)
 
     -- it counts more than was offered
     pub flush-bad : offered < first-count → _≡_ {A = FlushLeft} (record { answer = told BadAnswer; count = 0; ring = i .ring; out = i .out }) (flushOf i)

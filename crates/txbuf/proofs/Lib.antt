@@ -2,4 +2,5 @@ pub mod RecordLaws
 pub mod RingLaws
 pub mod PushLaws
 pub mod FlushLaws
+pub mod AnswerLaws
 pub mod Promises

@@ -11,6 +11,8 @@ use Rattle.txbuf.specs.Push.{runs, pushAnswer, pushDone, pushKept, pushO
 use Rattle.txbuf.specs.Flush.{firstPiece, takenBy, overBy, endsBy, flushCount, flushOver, flushAnswer, flushDone, flushKept, flushOf}
 use Rattle.txbuf.specs.Edges.{readingBCD, readingF}
 use Rattle.txbuf.specs.Promises.{TwoRunsAreOneWrite, HeldIsCounted, PushAppends, FirstPieceIsOldest, PiecesAreHeld, FlushTakesOldest, FlushProgresses, EdgesHold, EachCallPinned}
+use Rattle.txbuf.specs.Answers.{PushAnswers, FlushAnswers}
+use Rattle.txbuf.proofs.AnswerLaws as answers
 use Rattle.txbuf.proofs.RecordLaws as records
 use Rattle.txbuf.proofs.RingLaws as rings
 use Rattle.txbuf.proofs.PushLaws as pushes
@@ -36,6 +38,12 @@ flush-takes-oldest = flushes.flush-takes-oldest
 
 pub flush-progresses : FlushProgresses
 flush-progresses = flushes.flush-progresses
+
+pub push-answers : PushAnswers
+push-answers = answers.push-answers
+
+pub flush-answers : FlushAnswers
+flush-answers = answers.flush-answers
 
 pub edges-hold : EdgesHold
 unfolding when isDone whenDone isRingSize isPacketLength doorOf lateOf lowestOf copied soundRecord soundOf recordAnswer heldFrom held runs pushAnswer pushDone pushKept pushOf firstPiece takenBy overBy endsBy flushCount flushOver flushAnswer flushDone flushKept flushOf readingBCD readingF

@@ -1,7 +1,7 @@
 -- The ring's record (01, "The ring"): what is sound, what it holds, and the calls that only look at it. Assumes nothing.
 use Prim.Native.Nat.{ℕ, zero, suc, _%_, _^_, _<_}
 use mathlib.Core.Path.{_≡_}
-use mathlib.Core.Bool.{Bool, false, _&&_}
+use mathlib.Core.Bool.{Bool, _&&_}
 use mathlib.Core.List.{List, [], _∷_}
 use lib.ListN.{getD}
 use lib.Dec.{leb, eqb}
@@ -9,6 +9,7 @@ use Rattle.defs.specs.Answer.{Told, told, whenDone}
 use Rattle.defs.specs.Limits.{isRingSize}
 use Rattle.defs.specs.Ladder.{recordAnswer}
 use Rattle.defs.specs.Wrapping.{wsub}
+use Rattle.defs.specs.declared.answer.Answer.{Answer}
 use Rattle.txbuf.specs.declared.record.TxBuf.{TxBuf}
 
 -- how many bytes are held: head minus tail, 32-bit wrapping
@@ -56,25 +57,10 @@ newOf size = record {
 abbrev pub NewSays : ℕ → NewLeft → Type 0
 NewSays size left = left ≡ newOf size
 
-pub record LenLeft : Type 0 where
-  pub answer : Told
-  pub len : ℕ
+-- the answer of a call that only looks
+abbrev pub lookAnswer : TxBuf → Answer
+lookAnswer b = recordAnswer (soundRecord b)
 
-unfoldable pub lenOf : TxBuf → LenLeft
-lenOf b = record { answer = told (recordAnswer (soundRecord b)); len = whenDone (recordAnswer (soundRecord b)) (usedOf b) 0 }
-
-abbrev pub LenSays : TxBuf → LenLeft → Type 0
-LenSays b left = left ≡ lenOf b
-
-pub record EmptyLeft : Type 0 where
-  pub answer : Told
-  pub «is_empty» : Bool
-
-unfoldable pub emptyOf : TxBuf → EmptyLeft
-emptyOf b = record {
-  answer = told (recordAnswer (soundRecord b));
-  «is_empty» = whenDone (recordAnswer (soundRecord b)) (eqb (usedOf b) 0) false;
-}
-
-abbrev pub EmptySays : TxBuf → EmptyLeft → Type 0
-EmptySays b left = left ≡ emptyOf b
+-- nothing is held
+abbrev pub isEmpty : TxBuf → Bool
+isEmpty b = eqb (usedOf b) 0

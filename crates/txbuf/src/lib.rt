@@ -7,6 +7,4 @@ mod record;
 pub use flush::Flushed;
 pub use push::Pushed;
 pub use push::vsock_ring_push;
-pub use record::Empty;
-pub use record::Len;
 pub use record::TxBuf;

@@ -1,9 +1,12 @@
 // The ring's record: what is sound, and how much it holds.
 ghost use mathlib.Core.Path.{_≡_};
 ghost use Rattle.defs.specs.Answer.{told};
-ghost use Rattle.txbuf.specs.Record.{usedOf, soundRecord, soundOf, NewLeft, NewSays, LenLeft, LenSays, EmptyLeft, EmptySays};
+ghost use Rattle.defs.specs.Look.{FlagLeft, FlagSays, LenLeft, LenSays};
+ghost use Rattle.txbuf.specs.Record.{usedOf, soundRecord, soundOf, isEmpty, lookAnswer, NewLeft, NewSays};
 use crate::push::Pushed;
 use defs::Answer;
+use defs::Flag;
+use defs::Len;
 use defs::limits;
 
 // Offsets into the storage are head and tail modulo the size; both only rise, and wrap at 2^32.
@@ -14,23 +17,12 @@ pub struct TxBuf {
     pub tail: u32,
 }
 
-pub struct Len {
-    pub answer: Answer,
-    pub len: u32,
-}
-
-pub struct Empty {
-    pub answer: Answer,
-    pub is_empty: bool,
-}
-
 impl TxBuf {
     // An empty ring of a given size; the all-zero record where no ring has that size.
     pub fn new(size: u32) -> Pushed
         ensures { λ r. ⌜ NewSays size (record { answer = told (r .answer); ring = r .ring }) ⌝ }
     {
-        let bad = !limits::is_ring_size(size);
-        let answer = defs::door(bad, false, false, false);
+        let answer = defs::record_answer(limits::is_ring_size(size));
         let Answer::Done = answer else {
             return Pushed {
                 answer,
@@ -73,31 +65,14 @@ impl TxBuf {
     }
 
     pub fn len(self) -> Len
-        ensures { λ r. ⌜ LenSays self (record { answer = told (r .answer); len = r .len }) ⌝ }
+        ensures { λ r. ⌜ LenSays (lookAnswer self) (usedOf self) (record { answer = told (r .answer); len = r .len }) ⌝ }
     {
-        let answer = defs::door(!self.is_sound(), false, false, false);
-        let Answer::Done = answer else {
-            return Len { answer, len: 0 };
-        };
-        Len {
-            answer,
-            len: self.used(),
-        }
+        defs::len_of(defs::record_answer(self.is_sound()), self.used() as usize)
     }
 
-    pub fn is_empty(self) -> Empty
-        ensures { λ r. ⌜ EmptySays self (record { answer = told (r .answer); «is_empty» = r .«is_empty» }) ⌝ }
+    pub fn is_empty(self) -> Flag
+        ensures { λ r. ⌜ FlagSays (lookAnswer self) (isEmpty self) (record { answer = told (r .answer); holds = r .holds }) ⌝ }
     {
-        let answer = defs::door(!self.is_sound(), false, false, false);
-        let Answer::Done = answer else {
-            return Empty {
-                answer,
-                is_empty: false,
-            };
-        };
-        Empty {
-            answer,
-            is_empty: self.used() == 0,
-        }
+        defs::flag_of(defs::record_answer(self.is_sound()), self.used() == 0)
     }
 }

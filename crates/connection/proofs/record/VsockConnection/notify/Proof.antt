@@ -1,11 +1,11 @@
 -- `notify` meets its contract: refused, seen, or flushed and drained.
 use borrow.Author.Needs.{needs}
 use denote.Ref.{now}
-use mathlib.Core.Path.{refl}
+use mathlib.Core.Path.{refl, sym, _∙_}
 use Rattle.txbuf.specs.Flush.{FlushLeft}
 use Rattle.defs.specs.Answer.{told}
 use Rattle.connection.specs.Notify.{NotifyIn}
-use Rattle.connection.proofs.NotifyLaws.{is-due, Flushing, flushing, flush-within, notify-refused, notify-seen, notify-kept, notify-done}
+use Rattle.connection.proofs.NotifyLaws.{Flushing, flushing, flush-within, notify-refused, notify-seen, notify-kept, notify-done}
 use Rattle.connection.proofs.record.VsockConnection.notify.Statement.{statement}
 use Rattle.connection.proofs.record.VsockConnection.notify.Tie as tie
 
@@ -29,7 +29,7 @@ answered f =
     let y = f .before .before .before in
     let t = y .before .before .before in
     let q = t .before in
-    flushing (given (at f)) _ _ (y .flush-to .result .answer) _ (at f .notify-door .ensures) (q .before .before .enum-told .given .1) (is-due (given (at f)) _ _ (q .is-quiet .ensures) (t .if1 .taken)) (y .flush-to .ensures) refl (f .absorb .ensures)
+    flushing (given (at f)) _ _ (y .flush-to .result .answer) _ (at f .notify-door .ensures) (q .before .before .enum-told .given .1) (sym (q .is-flush-due .ensures) ∙ t .if1 .taken) (y .flush-to .ensures) refl (f .absorb .ensures)
 
 returns : tie.Need-returns
 returns c = notify-refused _ _ (c .before .notify-door .ensures) (c .match .keys2)
@@ -51,7 +51,7 @@ returns-4 : tie.Need-returns-4
 returns-4 c =
     let s = c .before .before in
     let d = s .before .before .before in
-    notify-seen (given d) _ _ (d .notify-door .ensures) (s .before .enum-told .given .1) (is-due (given d) _ _ (c .before .is-quiet .ensures) (c .if1 .left)) (s .see .ensures)
+    notify-seen (given d) _ _ (d .notify-door .ensures) (s .before .enum-told .given .1) (sym (c .before .is-flush-due .ensures) ∙ c .if1 .left) (s .see .ensures)
 
 pub notify-spec : {M : Type 1} → statement M
 notify-spec = tie.close (tie.spec (search needs) (λ c. search needs) returns (search needs) (search needs) (search needs) (search needs) (λ c. search needs) (λ c. search needs) returns-2 (search needs) drained-requires (λ c. search needs) returns-3 returns-4)

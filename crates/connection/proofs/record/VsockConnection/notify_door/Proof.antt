@@ -4,7 +4,7 @@ use Rattle.connection.proofs.record.VsockConnection.notify_door.Stateme
 use Rattle.connection.proofs.record.VsockConnection.notify_door.Tie as tie
 
 returns : tie.Need-returns
-returns c = notify-door _ _ _ _ (c .door .ensures) (c .before .is-sound-over .ensures)
+returns c = notify-door _ _ _ _ (c .record-answer .ensures) (c .before .is-sound-over .ensures)
 
 pub notify-door-spec : {M : Type 1} → statement M
 notify-door-spec = tie.close (tie.spec (search needs) (search needs) returns)

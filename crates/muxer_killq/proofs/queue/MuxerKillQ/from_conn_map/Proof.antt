@@ -11,9 +11,9 @@ given : tie.Start → BuildIn
 given c = record { limit = c .args .limit; clock = c .args .clock; ports = now (c .args .ports); used = now (c .args .used); times = now (c .args .times) }
 
 -- what the answer is
-answered : (c : tie.After-pop-answer) → c .pop-answer .result ≡ buildAnswer (given (c .before .before .before .before .before .before))
+answered : (c : tie.After-clock-answer) → c .clock-answer .result ≡ buildAnswer (given (c .before .before .before .before .before .before))
 unfolding given
-answered c = build-answer _ _ _ _ (c .pop-answer .ensures) (c .before .before .is-killq-limit .ensures) (c .before .is-sound .ensures)
+answered c = build-answer _ _ _ _ (c .clock-answer .ensures) (c .before .before .is-killq-limit .ensures) (c .before .is-sound .ensures)
 
 returns : tie.Need-returns
 unfolding given buildOf

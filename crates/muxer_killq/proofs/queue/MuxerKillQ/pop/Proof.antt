@@ -14,8 +14,8 @@ use Rattle.muxer_killq.proofs.queue.MuxerKillQ.pop.Statement.{statement
 use Rattle.muxer_killq.proofs.queue.MuxerKillQ.pop.Tie as tie
 
 -- what the answer is
-answered : (c : tie.After-pop-answer) → c .pop-answer .result ≡ clockAnswer (soundQ (c .before .before .before .args .t1)) (c .before .before .before .args .clock)
-answered c = c .pop-answer .ensures ∙ ap (λ (b : Bool). clockAnswer b (c .before .before .before .args .clock)) (c .before .is-sound .ensures)
+answered : (c : tie.After-clock-answer) → c .clock-answer .result ≡ clockAnswer (soundQ (c .before .before .before .args .t1)) (c .before .before .before .args .clock)
+answered c = c .clock-answer .ensures ∙ ap (λ (b : Bool). clockAnswer b (c .before .before .before .args .clock)) (c .before .is-sound .ensures)
 
 -- the array is as long as its type says
 whole : (c : tie.Start) → length (c .args .t1 .q) ≡ maxKillq

@@ -5,17 +5,18 @@ use lib.ListN.{length}
 use lib.Dec.{eqb}
 use Rattle.defs.specs.Limits.{maxRxq}
 use Rattle.conn_map.proofs.PlacesLaws.{long}
-use Rattle.conn_map.proofs.LookLaws.{flag-told}
+use Rattle.defs.proofs.LookLaws.{record-flag-told}
 use Rattle.muxer_rxq.proofs.QueueLaws.{sound-says}
 use Rattle.muxer_rxq.proofs.queue.MuxerRxQ.is_empty.Statement.{statement}
 use Rattle.muxer_rxq.proofs.queue.MuxerRxQ.is_empty.Tie as tie
 
 returns : tie.Need-returns
 returns c =
-    let s = c .before .before in
+    let a = c .before .before in
+    let s = a .before in
     let q = s .before .args .self in
     let n : length (q .q) ≡ maxRxq = search (needs, long) in
-    flag-told _ _ _ _ _ (c .flag-of .ensures) (s .is-sound .ensures) (λ e. ap (λ (k : ℕ). eqb k 0) (sym (sound-says q n e .held)))
+    record-flag-told _ _ _ _ _ _ (c .flag-of .ensures) (a .record-answer .ensures) (s .is-sound .ensures) (λ e. ap (λ (k : ℕ). eqb k 0) (sym (sound-says q n e .held)))
 
 pub is-empty-spec : {M : Type 1} → statement M
-is-empty-spec = tie.close (tie.spec (search needs) (search needs) returns)
+is-empty-spec = tie.close (tie.spec (search needs) (search needs) (search needs) returns)

@@ -3,17 +3,18 @@ use borrow.Author.Needs.{needs}
 use lib.ListN.{length}
 use Rattle.defs.specs.Limits.{maxRxq}
 use Rattle.conn_map.proofs.PlacesLaws.{long}
-use Rattle.conn_map.proofs.LookLaws.{len-told}
+use Rattle.defs.proofs.LookLaws.{record-len-told}
 use Rattle.muxer_rxq.proofs.QueueLaws.{sound-says}
 use Rattle.muxer_rxq.proofs.queue.MuxerRxQ.len.Statement.{statement}
 use Rattle.muxer_rxq.proofs.queue.MuxerRxQ.len.Tie as tie
 
 returns : tie.Need-returns
 returns c =
-    let s = c .before in
+    let a = c .before in
+    let s = a .before in
     let q = s .before .args .self in
     let n : length (q .q) ≡ maxRxq = search (needs, long) in
-    len-told _ _ _ _ _ (c .len-of .ensures) (s .is-sound .ensures) (λ e. sym (sound-says q n e .held))
+    record-len-told _ _ _ _ _ _ (c .len-of .ensures) (a .record-answer .ensures) (s .is-sound .ensures) (λ e. sym (sound-says q n e .held))
 
 pub len-spec : {M : Type 1} → statement M
-len-spec = tie.close (tie.spec (search needs) (search needs) returns)
+len-spec = tie.close (tie.spec (search needs) (search needs) (search needs) returns)

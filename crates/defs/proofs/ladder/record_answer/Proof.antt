@@ -1,7 +1,7 @@
 use borrow.Author.Needs.{needs}
 use Rattle.defs.specs.Ladder.{recordAnswer}
-use Rattle.conn_map.proofs.look.record_answer.Statement.{statement}
-use Rattle.conn_map.proofs.look.record_answer.Tie as tie
+use Rattle.defs.proofs.ladder.record_answer.Statement.{statement}
+use Rattle.defs.proofs.ladder.record_answer.Tie as tie
 
 returns : tie.Need-returns
 unfolding recordAnswer
