@@ -1,9 +1,14 @@
 -- Laws of the calls that give a queue, the same for both queues. Assumes nothing.
-use mathlib.Core.Path.{_≡_, sym, ap, _∙_}
-use Rattle.defs.specs.Answer.{Told, told, isDone}
+use mathlib.Core.Path.{_≡_, refl, sym, ap, _∙_}
+use mathlib.Core.Bool.{Bool, true, false, not}
+use mathlib.Core.List.{[], _∷_}
+use Rattle.defs.specs.Choice.{when}
+use Rattle.defs.specs.Answer.{Told, told, isDone, whenDone}
+use Rattle.defs.specs.Ladder.{doorOf, recordAnswer}
 use Rattle.defs.specs.declared.answer.Answer.{Answer}
 use Rattle.defs.specs.declared.answer.Answer.the-variants.{Done}
 use Rattle.defs.proofs.AnswerLaws.{NotDone, not-done, when-done, when-not-done, outcome-kept, outcome-done}
+use Rattle.defs.proofs.LadderLaws.{firstRow}
 use Rattle.conn_map.specs.Queued.{QueuedLeft, madeOf, calledOf}
 
 module _ {Q : Type 0} (a p : Answer) (e : a ≡ p) (x : Q) where
@@ -22,3 +27,13 @@ module _ {Q : Type 0} (a p : Answer) (e : a ≡ p) (x : Q) where
   pub called-done : (left : QueuedLeft Q) → a ≡ Done → calledOf p left x ≡ left
   unfolding calledOf
   called-done left d = when-done _ _ _ (sym e ∙ d)
+
+-- ---- the number of a push: 1 where the queue isn't sound, 11 where it is turned down
+
+pub pushed-number : {Q : Type 0} (sound down : Bool) (left : QueuedLeft Q) (q : Q) → left .answer .number ≡ when down 11 0
+    → calledOf (recordAnswer sound) left q .answer .number
+    ≡ firstRow (not sound ∷ false ∷ false ∷ false ∷ false ∷ false ∷ false ∷ false ∷ false ∷ false ∷ down ∷ [])
+unfolding calledOf recordAnswer doorOf whenDone isDone when
+pushed-number false down left q e = refl
+pushed-number true true left q e = e
+pushed-number true false left q e = e

@@ -13,7 +13,7 @@ use native.Mathlib.Nat.{mod-lt}
 use Rattle.defs.specs.Choice.{when}
 use Rattle.defs.specs.Limits.{isSlotCount}
 use Rattle.defs.specs.Promises.{Exactly}
-use Rattle.defs.proofs.Basics.{both, never, true-or-false}
+use Rattle.defs.proofs.Basics.{both, never, true-or-false, or-left}
 use Rattle.defs.proofs.ChoiceLaws.{when-true, when-false}
 use Rattle.conn_map.specs.Key.{keyOf}
 use Rattle.conn_map.specs.Table.{Slot, slotAt, slotsFrom, slotsOf, chosen, gathered, anyBelow, usedAt, hit, distinct, soundTable, homeOf, seen, behind, probes}
@@ -23,16 +23,13 @@ use Rattle.conn_map.specs.declared.key.ConnMapKey.{ConnMapKey}
 pub both-true : (a b : Bool) → a ≡ true → b ≡ true → a && b ≡ true
 both-true a b e f = rw (e, f)
 
-or-left : (a b : Bool) → a ≡ true → a || b ≡ true
-or-left a b e = rw e
-
 or-right : (a b : Bool) → b ≡ true → a || b ≡ true
 or-right true b e = refl
 or-right false b e = e
 
-and-false : (a b : Bool) → b ≡ false → a && b ≡ false
-and-false true b e = e
-and-false false b e = refl
+and-no : (a b : Bool) → b ≡ false → a && b ≡ false
+and-no true b e = e
+and-no false b e = refl
 
 clashing : {A : Type 0} (b : Bool) → b ≡ true → b ≡ false → A
 clashing b e f = absurd (never (sym f ∙ e))
@@ -234,7 +231,7 @@ module _ (ports used : List ℕ) where
 
   pub hit-no : (key i : ℕ) → (getD ports i 0 ≡ key → ⊥) → hit ports used key i ≡ false
   unfolding hit
-  hit-no key i e = and-false (usedAt used i) _ (ne-eqb (getD ports i 0) key e)
+  hit-no key i e = and-no (usedAt used i) _ (ne-eqb (getD ports i 0) key e)
 
   pub hit-unused : (key i : ℕ) → getD used i 0 ≡ 0 → hit ports used key i ≡ false
   unfolding hit usedAt
@@ -278,7 +275,7 @@ module _ (ports used : List ℕ) where
   skip-unused s e = rw (eq-eqb (getD used s 0) 0 e)
 
   pub skip-first : (s : ℕ) → behind ports used s ≡ false → usedAt used s && behind ports used s ≡ false
-  skip-first s e = and-false (usedAt used s) _ e
+  skip-first s e = and-no (usedAt used s) _ e
 
 -- ---- the test in the order of the code
 

@@ -14,6 +14,7 @@ use Rattle.defs.specs.declared.answer.Answer.the-variants.{Done}
 use Rattle.defs.specs.declared.stream.StreamAnswer.{StreamAnswer}
 use Rattle.defs.specs.declared.stream.StreamAnswer.the-variants.{Count, WouldBlock, Failed}
 use Rattle.defs.proofs.AnswerLaws.{answer-told}
+use Rattle.defs.proofs.ChoiceLaws.{ap-when}
 use Rattle.defs.proofs.LadderLaws.{firstRow, by-first-row, ladder-then, lowest-end, stop-number}
 use Rattle.txbuf.specs.Flush.{endsBy, flushAnswer, flushCount, flushOver}
 use Rattle.csm.specs.Turn.{hasNothing, lacksBuffer}
@@ -42,15 +43,11 @@ send-answers i left says =
 
 -- ---- a turn to speak
 
-by-test : (d : Bool) (r s : Answer) (x y : RecvLeft) → x .answer ≡ told s → y .answer ≡ told r → when d x y .answer ≡ told (when d s r)
-unfolding when
-by-test true r s x y e f = e
-by-test false r s x y e f = f
-
 -- the refusal, or else the row's answer
 recv-told : (i : RecvIn) → recvOf i .answer ≡ told (lowestOf (refusalOf i) (saidBy i .answer))
 unfolding recvOf recvDone recvKept lowestOf whenDone
-recv-told i = by-test (isDone (refusalOf i)) (refusalOf i) (saidBy i .answer) (recvDone i) (recvKept i) refl refl
+recv-told i =
+    ap-when (λ (o : RecvLeft). o .answer) (isDone (refusalOf i)) (recvDone i) (recvKept i) ∙ sym (ap-when told (isDone (refusalOf i)) (saidBy i .answer) (refusalOf i))
 
 pub recv-answers : RecvAnswers
 unfolding recvRefusal recvDoor

@@ -21,10 +21,10 @@ use Rattle.packet.specs.Uapi.{opResponse, opShutdown, opRw, opCreditRequest}
 use Rattle.packet.specs.declared.hdr.VsockPacketHdr.{VsockPacketHdr}
 use Rattle.txbuf.specs.Record.{Wide, usedOf, heldFrom, held}
 use Rattle.txbuf.specs.Push.{PushIn, PushLeft, pushAnswer, pushAnswerOf, pushDone, pushOf}
+use Rattle.txbuf.specs.declared.record.TxBuf.{TxBuf}
 use Rattle.txbuf.proofs.RecordLaws.{held-length}
 use Rattle.txbuf.proofs.PushLaws.{push-is-done, push-appends}
 use Rattle.txbuf.proofs.FlushLaws.{count-small, flush-takes-oldest, flush-wide}
-use Rattle.txbuf.specs.declared.record.TxBuf.{TxBuf}
 use Rattle.csm.specs.State.{takes, isLocalInit, bothOff}
 use Rattle.csm.specs.declared.row.Row.{Row}
 use Rattle.csm.specs.declared.timer.Timer.{Timer}

@@ -1,4 +1,4 @@
--- The promises of specs/Promises, each by its law. Assumes nothing.
+-- The promises of specs/Promises and specs/Answers, Runs and Stories, each by its law. Assumes nothing.
 use Rattle.defs.proofs.Pins.{by-equation}
 use Rattle.connection.specs.Promises.{SendMoves, NotifyMoves, SendCountedOff, NotifyCountedOff, NotifyOffersPieces, ReadWithinAsked, ReceiveKeeps, KillKeeps, EdgesHold, EachCallPinned}
 use Rattle.connection.specs.Answers.{SendAnswers, RecvAnswers, NotifyAnswers, RawAnswers}

@@ -66,21 +66,6 @@ out-is out bytes x written p q e =
     let l : length (take written bytes) ≡ written = length-take-le written bytes p in
     e ∙ copied-fits out (take written bytes) (omega arith) ∙ ap (λ (n : ℕ). take written bytes ++ drop n out) l
 
--- ---- what a refusal that passed says
-
--- data that goes lies in the buffer
-in-buffer : (t present isRw : Bool) (buf len : ℕ) → present && (not (isPacketLength buf) || isRw && ltb buf len) ≡ false
-    → (when (t && present && isRw) len 0 ≤ buf) × (when (t && present && isRw) len 0 ≤ maxPacket)
-unfolding when
-in-buffer true true true buf len e =
-    let n = neither (not (isPacketLength buf)) (ltb buf len) e in
-    let l = ltb-false buf len (n .1) in
-    let m = packet-length buf .0 (not-false _ (n .0)) in
-    (omega arith, omega arith)
-in-buffer true true false buf len e = (zero-le, zero-le)
-in-buffer true false isRw buf len e = (zero-le, zero-le)
-in-buffer false present isRw buf len e = (zero-le, zero-le)
-
 -- ---- the plan, put together as the code does
 
 -- of a write that counts
@@ -96,6 +81,19 @@ unfolding planOf
 plan-stopped c pkt present a g q f m k e1 e2 e3 e4 = rw (takes-none a k, when-same {A = ℕ} 0 (goesOf c (pkt .op) present && quiet c), e4, e3, e2, e1)
 
 -- ---- what a refusal that passed says
+
+-- data that goes lies in the buffer
+in-buffer : (t present isRw : Bool) (buf len : ℕ) → present && (not (isPacketLength buf) || isRw && ltb buf len) ≡ false
+    → (when (t && present && isRw) len 0 ≤ buf) × (when (t && present && isRw) len 0 ≤ maxPacket)
+unfolding when
+in-buffer true true true buf len e =
+    let n = neither (not (isPacketLength buf)) (ltb buf len) e in
+    let l = ltb-false buf len (n .1) in
+    let m = packet-length buf .0 (not-false _ (n .0)) in
+    (omega arith, omega arith)
+in-buffer true true false buf len e = (zero-le, zero-le)
+in-buffer true false isRw buf len e = (zero-le, zero-le)
+in-buffer false present isRw buf len e = (zero-le, zero-le)
 
 pub record Passed (i : SendIn) : Type 0 where
   pub sound : Sound (i .conn .«tx_buf») (length (i .store))

@@ -1,14 +1,15 @@
--- Which answer a call gives (01, "What comes back"): n exactly when row n's test holds and no lower row's. Assumes nothing.
+-- Which number a call answers (01, "What comes back"): n exactly when row n's test holds and no lower row's. Rows in order from 1; of 10 the call's
+-- own statement tells which kind. Assumes nothing.
 use mathlib.Core.Bool.{Bool, false, not, _&&_, _||_}
 use mathlib.Core.List.{List, [], _∷_}
 use lib.ListN.{length}
-use lib.Dec.{ltb, eqb}
+use lib.Dec.{ltb}
 use Rattle.defs.specs.Limits.{isHeaderLength, isClock, isPacketLength}
 use Rattle.defs.specs.Promises.{AnswersBy}
 use Rattle.defs.specs.Stream.{readCounted, stops}
 use Rattle.txbuf.specs.Flush.{flushCount, flushOver}
 use Rattle.csm.specs.Turn.{hasNothing, lacksBuffer}
-use Rattle.connection.specs.Record.{soundConn, soundOver, creditOf}
+use Rattle.connection.specs.Record.{soundConn, soundOver, noCredit}
 use Rattle.connection.specs.Send.{SendIn, SendLeft, SendSays, pktOf, sendPlan, tooLong}
 use Rattle.connection.specs.Receive.{RecvIn, RecvLeft, RecvSays, readsOf, askedOf}
 use Rattle.connection.specs.Notify.{NotifyIn, NotifyLeft, NotifySays, due, flushIn}
@@ -37,8 +38,8 @@ recvTests i =
     ∷ (i .present && not (isPacketLength (length (i .buf))))
     ∷ (readsOf (i .conn) (i .present) && (ltb (askedOf (i .conn) (length (i .buf))) (readCounted (i .answer)) || ltb (length (i .read)) (readCounted (i .answer))))
     ∷ false
-    ∷ hasNothing (i .conn .«pending_rx») (i .conn .state) (eqb (creditOf (i .conn)) 0) (i .present) (i .answer)
-    ∷ lacksBuffer (i .conn .«pending_rx») (i .conn .state) (eqb (creditOf (i .conn)) 0) (i .present)
+    ∷ hasNothing (i .conn .«pending_rx») (i .conn .state) (noCredit (i .conn)) (i .present) (i .answer)
+    ∷ lacksBuffer (i .conn .«pending_rx») (i .conn .state) (noCredit (i .conn)) (i .present)
     ∷ []
 
 abbrev pub RecvAnswers : Type 0

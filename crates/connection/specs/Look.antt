@@ -3,7 +3,6 @@
 use Prim.Native.Nat.{ℕ}
 use mathlib.Core.Path.{_≡_}
 use mathlib.Core.Bool.{Bool, false, not, _&&_}
-use lib.Dec.{eqb}
 use Rattle.defs.specs.Ladder.{recordAnswer, clockAnswer}
 use Rattle.defs.specs.Answer.{Told, told, whenDone}
 use Rattle.defs.specs.Look.{FlagLeft, flagOf}
@@ -15,7 +14,7 @@ use Rattle.csm.specs.declared.timer.Timer.{Timer}
 use Rattle.csm.specs.declared.timer.Timer.the-variants.{Unset}
 use Rattle.csm.specs.declared.state.ConnState.{ConnState}
 use Rattle.csm.specs.declared.state.ConnState.the-variants.{LocalInit}
-use Rattle.connection.specs.Record.{soundConn, quiet, creditOf, killedOf}
+use Rattle.connection.specs.Record.{soundConn, quiet, killedOf, noCredit}
 use Rattle.connection.specs.Open.{ConnLeft}
 use Rattle.connection.specs.declared.record.VsockConnection.{VsockConnection}
 
@@ -36,7 +35,7 @@ pub record Timed : Type 0 where
   pub conn : VsockConnection
   pub clock : ℕ
 
--- and of one that has a clock
+-- the answer of a call that tests its record and its clock
 abbrev pub timedAnswer : Timed → Answer
 timedAnswer i = clockAnswer (soundConn (i .conn)) (i .clock)
 
@@ -87,7 +86,7 @@ pub record EvSetLeft : Type 0 where
 unfoldable pub evSetOf : VsockConnection → EvSetLeft
 evSetOf c = record {
   answer = told (lookAnswer c);
-  readable = whenDone (lookAnswer c) (polls (c .state) && not (eqb (creditOf c) 0)) false;
+  readable = whenDone (lookAnswer c) (polls (c .state) && not (noCredit c)) false;
   writable = whenDone (lookAnswer c) (not (quiet c)) false;
 }
 

@@ -56,9 +56,11 @@ pub record NotifyLeft : Type 0 where
   pub conn : VsockConnection
   pub out : List ℕ
 
+-- of this event
 abbrev pub due : NotifyIn → Bool
 due i = flushDue (i .conn) (i .writable)
 
+-- the flush that it makes, and what that leaves
 abbrev pub flushIn : NotifyIn → FlushIn
 flushIn i = record { ring = i .conn .«tx_buf»; store = i .store; answers = i .answers; out = i .out }
 

@@ -1,4 +1,4 @@
--- What this crate promises, in statements only; proofs/Promises has a line for each. Assumes nothing.
+-- What this crate promises besides specs/Answers and specs/Runs, in statements only; proofs/Promises has a line for each. Assumes nothing.
 use Prim.Native.Nat.{ℕ, _≤_}
 use mathlib.Core.Path.{_≡_}
 use mathlib.Core.Bool.{Bool}

@@ -4,7 +4,7 @@ use mathlib.Core.Path.{_≡_}
 use mathlib.Core.Bool.{Bool, false, not, _&&_, _||_}
 use mathlib.Core.List.{List, _++_}
 use lib.ListN.{length, take, drop}
-use lib.Dec.{ltb, eqb}
+use lib.Dec.{ltb}
 use Rattle.defs.specs.Choice.{when}
 use Rattle.defs.specs.Answer.{Told, told, whenDone}
 use Rattle.defs.specs.Limits.{maxPacket, maxClock, maxTimeout, isHeaderLength, isClock, isPacketLength}
@@ -25,12 +25,12 @@ use Rattle.csm.specs.declared.timer.Timer.{Timer}
 use Rattle.csm.specs.declared.state.ConnState.{ConnState}
 use Rattle.csm.specs.declared.turn.RxStep.{RxStep}
 use Rattle.csm.specs.declared.row.Row.{Row}
-use Rattle.connection.specs.Record.{soundConn, creditOf}
+use Rattle.connection.specs.Record.{soundConn, creditOf, noCredit}
 use Rattle.connection.specs.declared.record.VsockConnection.{VsockConnection}
 
 -- what is said at this turn
 abbrev pub nextStep : VsockConnection → Bool → ReadAnswer → RxStep
-nextStep c present a = turnStep (c .«pending_rx») (c .state) (eqb (creditOf c) 0) present a
+nextStep c present a = turnStep (c .«pending_rx») (c .state) (noCredit c) present a
 
 -- ---- what a row leaves
 
@@ -105,7 +105,7 @@ recvDoor c hdr present buf clock =
 
 -- this turn reads from the stream
 abbrev pub readsOf : VsockConnection → Bool → Bool
-readsOf c present = turnReads (c .«pending_rx») (c .state) (eqb (creditOf c) 0) present
+readsOf c present = turnReads (c .«pending_rx») (c .state) (noCredit c) present
 
 -- the read asks for the smaller of buffer and credit
 abbrev pub askedOf : VsockConnection → ℕ → ℕ

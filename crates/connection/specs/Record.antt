@@ -33,6 +33,10 @@ quiet c = eqb (usedOf (c .«tx_buf»)) 0
 unfoldable pub creditOf : VsockConnection → ℕ
 creditOf c = peerAvailCredit (c .«peer_buf_alloc») (c .«rx_cnt») (c .«peer_fwd_cnt»)
 
+-- the guest has no room
+abbrev pub noCredit : VsockConnection → Bool
+noCredit c = eqb (creditOf c) 0
+
 -- the record with another state, timer and set of indications
 unfoldable pub withState : VsockConnection → ConnState → Timer → PendingRxSet → VsockConnection
 withState c state expiry pending = record {

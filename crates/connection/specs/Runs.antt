@@ -8,8 +8,8 @@ use lib.ListN.{length, take}
 use lib.Dec.{leb, eqb}
 use Rattle.defs.specs.Choice.{when}
 use Rattle.defs.specs.Stream.{counted}
-use Rattle.defs.specs.declared.answer.Answer.{Answer}
 use Rattle.defs.specs.Look.{FlagLeft}
+use Rattle.defs.specs.declared.answer.Answer.{Answer}
 use Rattle.txbuf.specs.Record.{usedOf, held}
 use Rattle.csm.specs.State.{Grown}
 use Rattle.csm.specs.declared.state.ConnState.the-variants.{PeerClosed}

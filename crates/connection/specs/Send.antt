@@ -26,6 +26,7 @@ use Rattle.csm.specs.State.{takes, asks, isLocalInit, isEstablished, recvOff, s
 use Rattle.csm.specs.Pending.{marked}
 use Rattle.csm.specs.Timer.{later}
 use Rattle.csm.specs.declared.timer.Timer.the-variants.{Unset}
+use Rattle.csm.specs.declared.state.ConnState.{ConnState}
 use Rattle.csm.specs.declared.state.ConnState.the-variants.{Established}
 use Rattle.connection.specs.Record.{soundOver, quiet, withState, killedOf}
 use Rattle.connection.specs.declared.record.VsockConnection.{VsockConnection}
@@ -56,12 +57,16 @@ heardOf c pkt = record {
 unfoldable pub onResponse : VsockConnection → VsockConnection
 onResponse c = when (isLocalInit (c .state)) (withState c Established Unset (c .«pending_rx»)) c
 
+-- the state after a SHUTDOWN with these flags
+abbrev pub shutOf : VsockConnection → ℕ → ConnState
+shutOf c flags = shutBy (c .state) (recvOff flags) (sendOff flags)
+
 -- THE SHUTDOWN RULE: both set and ring empty: Rst; both set in Established and ring not empty: the shutdown timer
 unfoldable pub onShutdown : VsockConnection → ℕ → ℕ → VsockConnection
 onShutdown c flags clock =
-    withState c (shutBy (c .state) (recvOff flags) (sendOff flags))
-    (when (isEstablished (c .state) && bothOff (shutBy (c .state) (recvOff flags) (sendOff flags)) && not (quiet c)) (later clock (c .settings .«shutdown_timeout»)) (c .expiry))
-    (marked (c .«pending_rx») (bothOff (shutBy (c .state) (recvOff flags) (sendOff flags)) && quiet c) false false)
+    withState c (shutOf c flags)
+    (when (isEstablished (c .state) && bothOff (shutOf c flags) && not (quiet c)) (later clock (c .settings .«shutdown_timeout»)) (c .expiry))
+    (marked (c .«pending_rx») (bothOff (shutOf c flags) && quiet c) false false)
 
 -- CREDIT_REQUEST: sets a credit update
 unfoldable pub onCreditRequest : VsockConnection → VsockConnection

@@ -36,6 +36,7 @@ pub struct EvSet {
 }
 
 impl VsockConnection {
+    // Whether there is a packet for the guest.
     pub fn has_pending_rx(self) -> Flag
         ensures { λ r. ⌜ PendingSays self (record { answer = told (r .answer); holds = r .holds }) ⌝ }
     {
@@ -65,6 +66,7 @@ impl VsockConnection {
         )
     }
 
+    // The timer.
     pub fn expiry(self) -> Expiry
         ensures { λ r. ⌜ ExpirySays self (record { answer = told (r .answer); expiry = r .expiry }) ⌝ }
     {
@@ -79,6 +81,7 @@ impl VsockConnection {
         Expiry { answer, expiry }
     }
 
+    // The state.
     pub fn state(self) -> State
         ensures { λ r. ⌜ StateSays self (record { answer = told (r .answer); state = r .state }) ⌝ }
     {

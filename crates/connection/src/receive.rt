@@ -19,7 +19,7 @@ use csm::ConnState;
 use csm::PendingRxSet;
 use csm::Row;
 use csm::Timer;
-use csm::left;
+use csm::remaining;
 use csm::state_after;
 use csm::timer_after;
 use defs::Answer;
@@ -145,7 +145,7 @@ fn received(conn: VsockConnection, row: Row, now_ms: u64) -> VsockConnection
         row.count,
         row.tells,
         next,
-        left(pending, row.ends),
+        remaining(pending, row.ends),
         timer,
     )
 }
@@ -157,7 +157,7 @@ pub(crate) fn later_by(now_ms: u64, wait: u64) -> Timer
     Timer::At(now_ms + wait)
 }
 
-// So many bytes went to the guest; where it is told our fwd_cnt, that is kept.
+// So many bytes went to the guest; where our fwd_cnt counts as told, that is kept.
 fn spoken(
     conn: VsockConnection,
     count: usize,

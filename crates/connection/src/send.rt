@@ -6,7 +6,7 @@ ghost use mathlib.Core.Path.{_≡_};
 ghost use mathlib.Core.Bool.{true};
 ghost use mathlib.Core.List.{_++_};
 ghost use Prim.Native.Nat.{_≤_};
-ghost use lib.ListN.{length, take, drop};
+ghost use lib.ListN.{take, drop};
 ghost use Rattle.defs.specs.Choice.{when};
 ghost use Rattle.defs.specs.Answer.{told};
 ghost use Rattle.defs.specs.Limits.{maxRing, maxPacket};

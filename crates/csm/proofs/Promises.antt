@@ -17,7 +17,7 @@ pub each-call-pinned : EachCallPinned
 each-call-pinned = record {
   is-pending = by-equation _ _ _;
   mark = by-equation _ _ _;
-  left = by-equation _ _ _;
+  remaining = by-equation _ _ _;
   row-of = by-equation _ _ _;
   state-after = by-equation _ _ _;
   timer-after = by-equation _ _ _;

@@ -30,7 +30,7 @@ by-answer : (r s q w up noCredit present u : Bool) (a : ReadAnswer)
     → told (rowOf (when r Rst (when s Response (when q Request (when w (dataStep up noCredit present (readStep a (updateStep u))) (updateStep u))))) .answer) .number
     ≡ firstRow
     (false ∷ false ∷ false ∷ false ∷ false ∷ false
-    ∷ (not r && not s && not q && (not w || up && not noCredit && present && readBlocks a) && not u)
+    ∷ (not r && not s && not q && (not w || not r && not s && not q && w && up && not noCredit && present && readBlocks a) && not u)
     ∷ (not r && not s && not q && w && up && not noCredit && not present)
     ∷ [])
 unfolding when
@@ -54,7 +54,7 @@ by-answer false false false true true false true u Failed = refl
 pub turn-number : (p : PendingRxSet) (s : ConnState) (noCredit present : Bool) (a : ReadAnswer)
     → told (rowOf (turnStep p s noCredit present a) .answer) .number
     ≡ firstRow (false ∷ false ∷ false ∷ false ∷ false ∷ false ∷ hasNothing p s noCredit present a ∷ lacksBuffer p s noCredit present ∷ [])
-unfolding turnStep hasNothing lacksBuffer
+unfolding turnStep turnReads hasNothing lacksBuffer
 turn-number p s noCredit present a = by-answer (p .rst) (p .response) (p .request) (p .rw) (gives s) noCredit present (p .«credit_update») a
 
 pub turn-answers : TurnAnswers

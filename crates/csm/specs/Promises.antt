@@ -29,7 +29,7 @@ SaysWhatWasRead =
     (p : PendingRxSet) (s : ConnState) (noCredit present : Bool) (a : ReadAnswer)
     → rowOf (turnStep p s noCredit present a) .count ≤ when (turnReads p s noCredit present) (readCounted a) 0
 
--- 01's table, 7 and 8: a turn answers them exactly when it has nothing to say, and when data is due and has no buffer; else it is done
+-- 01's table, 7 and 8: a turn answers them exactly when it has nothing to say, and when data is due, credit isn't 0 and there is no buffer; else it is done
 abbrev pub TurnAnswers : Type 0
 TurnAnswers =
     (p : PendingRxSet) (s : ConnState) (noCredit present : Bool) (a : ReadAnswer)
@@ -52,7 +52,7 @@ pub record TurnIn : Type 0 where
 pub record EachCallPinned : Type 0 where
   pub is-pending : Pinned PendingRxSet Bool (λ p r. r ≡ isPending p)
   pub mark : Pinned (PendingRxSet × Bool × Bool × Bool) PendingRxSet (λ i r. r ≡ marked (i .0) (i .1) (i .2) (i .3))
-  pub left : Pinned (PendingRxSet × Bool) PendingRxSet (λ i r. r ≡ leftOf (i .0) (i .1))
+  pub remaining : Pinned (PendingRxSet × Bool) PendingRxSet (λ i r. r ≡ leftOf (i .0) (i .1))
   pub row-of : Pinned RxStep Row (λ step r. r ≡ rowOf step)
   pub state-after : Pinned (After × ConnState) ConnState (λ i r. r ≡ afterwards (i .0) (i .1))
   pub timer-after : Pinned (Arms × Timer × Timer × Timer) Timer (λ i r. r ≡ armed (i .0) (i .1) (i .2) (i .3))

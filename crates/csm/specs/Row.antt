@@ -32,23 +32,23 @@ is answer op flags count tells ends after arms = record {
 abbrev pub plainRow : Answer → ℕ → Bool → Bool → Row
 plainRow answer op tells ends = is answer op 0 0 tells ends Same Keep
 
--- one that moves state or timer, and tells the guest nothing
+-- one that moves state or timer; our fwd_cnt does not count as told
 abbrev pub turningRow : ℕ → After → Arms → Row
 turningRow op after arms = is Done op 0 0 false false after arms
 
--- step, then answer, op, flags, len, whether last-told is updated, whether a pending update ends, state, timer
+-- THE TABLE: answer, op, (flags, len,) whether last-told is updated, whether a pending update ends, (state, timer)
 abbrev pub rowOf : RxStep → Row
-rowOf Rst = is Done opRst 0 0 false false Same Keep
-rowOf Response = is Done opResponse 0 0 false false Opens Keep
-rowOf Request = is Done opRequest 0 0 false false Same Wait
-rowOf OutOfState = is Done opRst 0 0 false false Same Keep
-rowOf AskCredit = is Done opCreditRequest 0 0 true false Same Keep
-rowOf NoBuffer = is PktBufMissing 0 0 0 false false Same Keep
+rowOf Rst = plainRow Done opRst false false
+rowOf Response = turningRow opResponse Opens Keep
+rowOf Request = turningRow opRequest Same Wait
+rowOf OutOfState = plainRow Done opRst false false
+rowOf AskCredit = plainRow Done opCreditRequest true false
+rowOf NoBuffer = plainRow PktBufMissing 0 false false
 rowOf (Data n) = is Done opRw 0 n true false Same Keep
 rowOf Close = is Done opShutdown (flagShutdownRcv + flagShutdownSend) 0 true false Closes Linger
-rowOf Fail = is Done opRst 0 0 true false Same Keep
-rowOf Update = is Done opCreditUpdate 0 0 true true Same Keep
-rowOf Nothing = is NoData 0 0 0 false true Same Keep
+rowOf Fail = plainRow Done opRst true false
+rowOf Update = plainRow Done opCreditUpdate true true
+rowOf Nothing = plainRow NoData 0 false true
 
 -- what becomes of the state
 abbrev pub afterwards : After → ConnState → ConnState

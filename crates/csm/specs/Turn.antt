@@ -27,11 +27,13 @@ updateStep update = when update Update Nothing
 
 -- the first pending of Rst; Response; Request; Rw; CreditUpdate
 abbrev pub rxStep : PendingRxSet → RxStep → RxStep → RxStep
-rxStep p some update = when (p .rst) Rst (when (p .response) Response (when (p .request) Request (when (p .rw) some update)))
+rxStep p onRw update = when (p .rst) Rst (when (p .response) Response (when (p .request) Request (when (p .rw) onRw update)))
 
 -- by what is pending, the state, whether the guest's credit is 0, whether there is a buffer, and the stream's answer
 unfoldable pub turnStep : PendingRxSet → ConnState → Bool → Bool → ReadAnswer → RxStep
-turnStep p state noCredit present a = rxStep p (dataStep (gives state) noCredit present (readStep a (updateStep (p .«credit_update»)))) (updateStep (p .«credit_update»))
+turnStep p state noCredit present a =
+    let update = updateStep (p .«credit_update») in
+    rxStep p (dataStep (gives state) noCredit present (readStep a update)) update
 
 -- Rw is the first that is pending
 abbrev pub dataFirst : PendingRxSet → Bool
@@ -44,7 +46,7 @@ turnReads p state noCredit present = dataFirst p && gives state && not noCredit 
 -- answer 7, nothing to say: no indication is left but one for data that the stream has not got yet
 unfoldable pub hasNothing : PendingRxSet → ConnState → Bool → Bool → ReadAnswer → Bool
 hasNothing p state noCredit present a =
-    not (p .rst) && not (p .response) && not (p .request) && (not (p .rw) || gives state && not noCredit && present && readBlocks a) && not (p .«credit_update»)
+    not (p .rst) && not (p .response) && not (p .request) && (not (p .rw) || turnReads p state noCredit present && readBlocks a) && not (p .«credit_update»)
 
 -- answer 8: data due, credit not 0, no buffer
 unfoldable pub lacksBuffer : PendingRxSet → ConnState → Bool → Bool → Bool

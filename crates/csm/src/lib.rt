@@ -9,8 +9,8 @@ mod turn;
 
 pub use pending::PendingRxSet;
 pub use pending::is_pending;
-pub use pending::left;
 pub use pending::mark;
+pub use pending::remaining;
 pub use row::After;
 pub use row::Arms;
 pub use row::Row;

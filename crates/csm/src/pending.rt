@@ -31,7 +31,7 @@ pub fn mark(pending: PendingRxSet, rst: bool, rw: bool, update: bool) -> Pending
 }
 
 // After a turn to speak: the indication that was used is gone; those behind it stay.
-pub fn left(pending: PendingRxSet, ends: bool) -> PendingRxSet
+pub fn remaining(pending: PendingRxSet, ends: bool) -> PendingRxSet
     ensures { λ r. ⌜ r ≡ leftOf pending ends ⌝ }
 {
     PendingRxSet {

@@ -17,12 +17,14 @@ pub enum After {
 // What becomes of the timer.
 pub enum Arms {
     Keep,
+    // The guest has the request's time to answer.
     Wait,
+    // The guest has the shutdown's time to go.
     Linger,
 }
 
-// A step's answer, the header's op, flags and len, whether the guest is told our fwd_cnt, whether a
-// pending update ends with it, and what becomes of state and timer.
+// A step's answer, the header's op, flags and len, whether our fwd_cnt counts as told
+// to the guest with it, whether a pending update ends with it, and what becomes of state and timer.
 pub struct Row {
     pub answer: Answer,
     pub op: u16,
@@ -69,7 +71,7 @@ fn plain(answer: Answer, op: u16, tells: bool, ends: bool) -> Row
     }
 }
 
-// One that moves state or timer, and tells the guest nothing.
+// One that moves state or timer; our fwd_cnt does not count as told.
 fn turning(op: u16, after: After, arms: Arms) -> Row
     ensures { λ r. ⌜ r ≡ turningRow op after arms ⌝ }
 {

@@ -73,6 +73,7 @@ pub fn asks(state: ConnState) -> bool
     }
 }
 
+// Opened by the host, and not confirmed yet.
 pub fn is_local_init(state: ConnState) -> bool
     ensures { λ r. ⌜ r ≡ isLocalInit state ⌝ }
 {
@@ -86,6 +87,7 @@ pub fn is_local_init(state: ConnState) -> bool
     }
 }
 
+// Confirmed, and closed by neither side.
 pub fn is_established(state: ConnState) -> bool
     ensures { λ r. ⌜ r ≡ isEstablished state ⌝ }
 {

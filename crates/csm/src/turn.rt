@@ -46,13 +46,13 @@ pub fn turn_step(
 {
     let update = update_step(pending.credit_update);
     let read = read_step(answer, update);
-    let some = data_step(gives(state), no_credit, present, read);
-    rx_step(pending, some, update)
+    let on_rw = data_step(gives(state), no_credit, present, read);
+    rx_step(pending, on_rw, update)
 }
 
 // The first that is pending of Rst, Response, Request, Rw and CreditUpdate.
-fn rx_step(pending: PendingRxSet, some: RxStep, update: RxStep) -> RxStep
-    ensures { λ r. ⌜ r ≡ rxStep pending some update ⌝ }
+fn rx_step(pending: PendingRxSet, on_rw: RxStep, update: RxStep) -> RxStep
+    ensures { λ r. ⌜ r ≡ rxStep pending «on_rw» update ⌝ }
 {
     if pending.rst {
         return RxStep::Rst;
@@ -63,7 +63,7 @@ fn rx_step(pending: PendingRxSet, some: RxStep, update: RxStep) -> RxStep
     if pending.request {
         return RxStep::Request;
     }
-    if pending.rw { some } else { update }
+    if pending.rw { on_rw } else { update }
 }
 
 // Credit before buffer: a guest without room is asked for it, whether there is a buffer or not.

@@ -7,11 +7,11 @@ use lib.Dec.{eqb}
 use denote.Enum.Declared.{tagOf}
 use types.Run.{OneOf, miss}
 use borrow.Author.Tests.{eq-eqb}
-use Rattle.defs.proofs.answer.Answer.{the-type}
 use Rattle.defs.specs.Choice.{when}
 use Rattle.defs.specs.Answer.{Told, told, isDone, whenDone}
 use Rattle.defs.specs.declared.answer.Answer.{Answer}
 use Rattle.defs.specs.declared.answer.Answer.the-variants.{Done, BadRecord, BadHeader, BadClock, BadLength, BadAnswer, NoRoom, NoData, PktBufMissing, TxBufFull, StreamBlocked, StreamFailed, NotQueued}
+use Rattle.defs.proofs.answer.Answer.{the-type}
 use Rattle.defs.proofs.Basics.{never}
 use Rattle.defs.proofs.ChoiceLaws.{when-true, when-false, when-holds}
 

@@ -20,13 +20,6 @@ pub copied-over : (dst src : List ℕ) → length dst ≤ length src → copied 
 unfolding copied
 copied-over dst src l = rw (drop-of-length-le dst l, append-nil)
 
-pub copied-whole : (dst src : List ℕ) → length dst ≡ length src → copied dst src ≡ src
-copied-whole dst src e = copied-over dst src (omega arith) ∙ take-all (length dst) src (omega arith)
-
-pub length-copied : (dst src : List ℕ) → length (copied dst src) ≡ length dst
-unfolding copied
-length-copied dst src = simp (length-append, length-take, length-drop) (omega arith)
-
 -- the first n of both, where n is the shorter length
 pub copied-least : (dst src : List ℕ) (n : ℕ) → n ≡ min (length dst) (length src) → take n src ++ drop n dst ≡ copied dst src
 copied-least dst src n e =

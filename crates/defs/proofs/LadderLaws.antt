@@ -2,7 +2,7 @@
 use Prim.Native.Nat.{ℕ, zero, suc, _<_, _≤_}
 use mathlib.Core.Path.{_≡_, refl, sym, ap, subst, _∙_}
 use mathlib.Core.Logic.{⊎-elim}
-use mathlib.Core.Bool.{Bool, true, false}
+use mathlib.Core.Bool.{Bool, true, false, not}
 use mathlib.Core.List.{List, [], _∷_}
 use native.Mathlib.Omega.{arith}
 use native.Mathlib.Nat.{not-suc-le-zero, le-of-suc-le-suc}
@@ -10,9 +10,10 @@ use lib.ListN.{getD}
 use borrow.Author.Tests.{not-false}
 use Rattle.defs.specs.Choice.{when}
 use Rattle.defs.specs.Answer.{Told, told, isDone, whenDone}
-use Rattle.defs.specs.Ladder.{doorOf, lateOf, lowestOf, recordAnswer}
+use Rattle.defs.specs.Ladder.{doorOf, lateOf, lowestOf, recordAnswer, clockAnswer}
+use Rattle.defs.specs.Limits.{isClock}
 use Rattle.defs.specs.Stream.{stoppedBy, stops}
-use Rattle.defs.specs.Promises.{LowestRow, AnswersBy, LowestNumber}
+use Rattle.defs.specs.Promises.{LowestRow, AnswersBy, LowestNumber, RecordAnswers, ClockAnswers}
 use Rattle.defs.specs.declared.answer.Answer.{Answer}
 use Rattle.defs.specs.declared.answer.Answer.the-variants.{Done}
 use Rattle.defs.specs.declared.stream.StreamAnswer.{StreamAnswer}
@@ -20,11 +21,12 @@ use Rattle.defs.specs.declared.stream.StreamAnswer.the-variants.{Count, 
 use Rattle.defs.proofs.AnswerLaws.{NotDone, not-done, is-done, done-is-done, when-done, when-not-done}
 use Rattle.defs.proofs.Basics.{never, lt-or-ge, true-or-false}
 
--- the number of the first row whose test holds
+-- one row down, where there is a row
 abbrev up : ℕ → ℕ
 up zero = zero
 up (suc n) = suc (suc n)
 
+-- the number of the first row whose test holds
 abbrev pub firstRow : List Bool → ℕ
 firstRow [] = 0
 firstRow (true ∷ ts) = 1
@@ -105,6 +107,24 @@ lowest-end p =
 
 pub lowest-number : LowestNumber
 lowest-number r h c l a m = by-first-row (told (lowestOf (doorOf r h c l) (lateOf a m))) _ (ap (λ (x : Answer). told x .number) (sym (lowest-end _)) ∙ ladder-then r h c l a m Done [] refl)
+
+record-number : (s : Bool) → told (recordAnswer s) .number ≡ firstRow (not s ∷ [])
+unfolding recordAnswer doorOf when
+record-number true = refl
+record-number false = refl
+
+pub record-answers : RecordAnswers
+record-answers sound = by-first-row (told (recordAnswer sound)) _ (record-number sound)
+
+clock-number : (s c : Bool) → told (doorOf (not s) false (not c) false) .number ≡ firstRow (not s ∷ false ∷ not c ∷ [])
+unfolding doorOf when
+clock-number true true = refl
+clock-number true false = refl
+clock-number false c = refl
+
+pub clock-answers : ClockAnswers
+unfolding clockAnswer
+clock-answers sound ms = by-first-row (told (clockAnswer sound ms)) _ (clock-number sound (isClock ms))
 
 -- ---- for callers: what a part that passed or refused says
 

@@ -2,7 +2,7 @@
 use mathlib.Core.Path.{refl}
 use Rattle.defs.specs.Credit.{peerAvailCredit, peerNeedsCreditUpdate}
 use Rattle.defs.specs.Edges.{readingE, readingH}
-use Rattle.defs.specs.Promises.{ToldTellsApart, LowestNumber, RingSizes, WrapsAround, KeepsPlace, CreditIsFreeSpace, EdgesHold, EachCallPinned}
+use Rattle.defs.specs.Promises.{ToldTellsApart, LowestNumber, RecordAnswers, ClockAnswers, RingSizes, WrapsAround, KeepsPlace, CreditIsFreeSpace, EdgesHold, EachCallPinned}
 use Rattle.defs.proofs.AnswerLaws as answers
 use Rattle.defs.proofs.LadderLaws as ladder
 use Rattle.defs.proofs.LimitLaws as limits
@@ -15,6 +15,12 @@ told-tells-apart = answers.told-tells-apart
 
 pub lowest-number : LowestNumber
 lowest-number = ladder.lowest-number
+
+pub record-answers : RecordAnswers
+record-answers = ladder.record-answers
+
+pub clock-answers : ClockAnswers
+clock-answers = ladder.clock-answers
 
 pub ring-sizes : RingSizes
 ring-sizes = limits.ring-sizes

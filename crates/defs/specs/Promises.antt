@@ -1,7 +1,7 @@
 -- What this crate promises, in statements only; proofs/Promises has a line for each. Assumes nothing.
 use Prim.Native.Nat.{ℕ, zero, suc, _+_, _-_, _%_, _^_, _<_, _≤_, min}
 use mathlib.Core.Path.{_≡_}
-use mathlib.Core.Bool.{Bool, true, false}
+use mathlib.Core.Bool.{Bool, true, false, not}
 use mathlib.Core.List.{List, [], _∷_}
 use lib.ListN.{getD}
 use Rattle.defs.specs.Answer.{Told, told}
@@ -38,6 +38,13 @@ AnswersBy t tests = (n : ℕ) → Exactly (t .number ≡ n) (LowestRow tests n)
 -- the ladder does so, rows 1 to 6
 abbrev pub LowestNumber : Type 0
 LowestNumber = (r h c l a m : Bool) → AnswersBy (told (lowestOf (doorOf r h c l) (lateOf a m))) (r ∷ h ∷ c ∷ l ∷ a ∷ m ∷ [])
+
+-- so does a call that tests nothing but its record, and one that tests its clock besides
+abbrev pub RecordAnswers : Type 0
+RecordAnswers = (sound : Bool) → AnswersBy (told (recordAnswer sound)) (not sound ∷ [])
+
+abbrev pub ClockAnswers : Type 0
+ClockAnswers = (sound : Bool) (ms : ℕ) → AnswersBy (told (clockAnswer sound ms)) (not sound ∷ false ∷ not (isClock ms) ∷ [])
 
 -- a power of two
 abbrev pub PowerOfTwo : ℕ → Type 0

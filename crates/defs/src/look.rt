@@ -1,6 +1,5 @@
 // What a call that only looks comes back with: its answer, and where that is 0 what was asked for,
 // else false or 0.
-ghost use mathlib.Core.Path.{_≡_};
 ghost use Rattle.defs.specs.Answer.{told};
 ghost use Rattle.defs.specs.Look.{FlagLeft, FlagSays, LenLeft, LenSays};
 use crate::answer::Answer;
@@ -15,6 +14,7 @@ pub struct Len {
     pub len: usize,
 }
 
+// A yes or no, where the answer is 0.
 pub fn flag_of(answer: Answer, value: bool) -> Flag
     ensures { λ r. ⌜ FlagSays answer value (record { answer = told (r .answer); holds = r .holds }) ⌝ }
 {
@@ -30,6 +30,7 @@ pub fn flag_of(answer: Answer, value: bool) -> Flag
     }
 }
 
+// A count, where the answer is 0.
 pub fn len_of(answer: Answer, value: usize) -> Len
     ensures { λ r. ⌜ LenSays answer value (record { answer = told (r .answer); len = r .len }) ⌝ }
 {

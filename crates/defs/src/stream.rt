@@ -24,6 +24,7 @@ pub struct StreamAnswers {
     pub second: StreamAnswer,
 }
 
+// Whether it is a failure.
 pub fn has_failed(answer: StreamAnswer) -> bool
     ensures { λ r. ⌜ r ≡ failed answer ⌝ }
 {

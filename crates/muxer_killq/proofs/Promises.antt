@@ -1,8 +1,9 @@
 -- The promises of specs/Promises, each by its law. Assumes nothing.
 use Rattle.defs.proofs.Pins.{by-equation}
-use Rattle.muxer_killq.specs.Promises.{QueueIsItsList, EverySortIsStable, EdgesHold, EachCallPinned}
+use Rattle.muxer_killq.specs.Promises.{QueueIsItsList, PushAnswers, EverySortIsStable, EdgesHold, EachCallPinned}
 use Rattle.muxer_killq.proofs.Edges as edges
 use Rattle.muxer_killq.proofs.QueueLaws as queues
+use Rattle.muxer_killq.proofs.PushLaws as pushes
 use Rattle.muxer_killq.proofs.SortLaws as sorts
 
 pub queue-is-its-list : QueueIsItsList
@@ -10,6 +11,9 @@ queue-is-its-list = queues.queue-is-its-list
 
 pub every-sort-is-stable : EverySortIsStable
 every-sort-is-stable = sorts.every-sort-is-stable
+
+pub push-answers : PushAnswers
+push-answers = pushes.push-answers
 
 pub edges-hold : EdgesHold
 edges-hold = edges.edges-hold
@@ -22,7 +26,6 @@ each-call-pinned = record {
   peek = by-equation _ _ _;
   pop = by-equation _ _ _;
   eq = by-equation _ _ _;
-  is-sound = by-equation _ _ _;
   is-synced = by-equation _ _ _;
   is-empty = by-equation _ _ _;
   is-full = by-equation _ _ _;

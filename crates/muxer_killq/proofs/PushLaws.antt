@@ -1,9 +1,10 @@
 -- Laws of `push`: each end of the call. Assumes nothing.
 use Prim.Native.Nat.{ℕ, _+_}
-use mathlib.Core.Path.{_≡_, ap, sym, _∙_}
-use mathlib.Core.Bool.{true, false}
+use mathlib.Core.Path.{_≡_, refl, ap, sym, _∙_}
+use mathlib.Core.Bool.{Bool, true, false, not}
 use mathlib.Core.List.{[], _∷_, _++_}
 use lib.ListN.{length, set}
+use Rattle.defs.specs.Choice.{when}
 use Rattle.defs.specs.Ladder.{recordAnswer}
 use Rattle.defs.specs.Answer.{told}
 use Rattle.defs.specs.Limits.{maxKillq}
@@ -11,15 +12,16 @@ use Rattle.defs.specs.declared.answer.Answer.{Answer}
 use Rattle.defs.specs.declared.answer.Answer.the-variants.{Done, NotQueued}
 use Rattle.defs.proofs.ChoiceLaws.{when-true, when-false}
 use Rattle.defs.proofs.AnswerLaws.{NotDone}
+use Rattle.defs.proofs.LadderLaws.{by-first-row, record-passed}
 use Rattle.conn_map.specs.Places.{hasRoom}
 use Rattle.conn_map.specs.Queued.{QueuedLeft}
 use Rattle.conn_map.specs.declared.key.ConnMapKey.{ConnMapKey}
-use Rattle.defs.proofs.LadderLaws.{record-passed}
-use Rattle.conn_map.proofs.QueuedLaws.{called-kept, called-done}
+use Rattle.conn_map.proofs.QueuedLaws.{called-kept, called-done, pushed-number}
 use Rattle.conn_map.proofs.PlacesLaws.{room-is, room-within, appended, one-more}
 use Rattle.muxer_killq.specs.Item.{zeroItem}
 use Rattle.muxer_killq.specs.Queue.{soundQ, items}
-use Rattle.muxer_killq.specs.Push.{itemAt, pushList, pushOf}
+use Rattle.muxer_killq.specs.Push.{itemAt, pushList, turnsDown, pushOf}
+use Rattle.muxer_killq.specs.Promises.{PushAnswers}
 use Rattle.muxer_killq.specs.declared.item.MuxerKillQItem.{MuxerKillQItem}
 use Rattle.muxer_killq.specs.declared.queue.MuxerKillQ.{MuxerKillQ}
 use Rattle.muxer_killq.proofs.QueueLaws.{Sound, sound-says, packs, sound-packed}
@@ -60,3 +62,18 @@ module _ (q : MuxerKillQ) (key : ConnMapKey) (time : ℕ) (a : Answer) (e : a �
     push-turned t =
         ap (λ (x : MuxerKillQ). record { answer = told NotQueued; queue = x }) (sound-packed q false sound)
         ∙ sym (by-list ∙ when-false _ _ _ (room-is maxKillq zeroItem (q .q) (q .len) (q .limit) sound (q .synced) false t))
+
+-- ---- which number
+
+by-room : (room : Bool) (a b : QueuedLeft MuxerKillQ) → a .answer .number ≡ 0 → b .answer .number ≡ 11 → when room a b .answer .number ≡ when (not room) 11 0
+unfolding when
+by-room true a b e f = e
+by-room false a b e f = f
+
+pub push-answers : PushAnswers
+unfolding pushOf pushList
+push-answers i left says =
+    let q = i .queue in
+    by-first-row (left .answer) _
+    (ap (λ (o : QueuedLeft MuxerKillQ). o .answer .number) says
+    ∙ pushed-number (soundQ q) (turnsDown (items q) (q .limit) (q .synced)) _ q (by-room (hasRoom (q .synced) (length (items q)) (q .limit)) _ _ refl refl))

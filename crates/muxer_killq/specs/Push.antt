@@ -1,16 +1,16 @@
 -- `push` (01, "The two queues"). Assumes nothing.
 use Prim.Native.Nat.{ℕ}
 use mathlib.Core.Path.{_≡_}
-use mathlib.Core.Bool.{Bool, false}
+use mathlib.Core.Bool.{Bool, false, not}
 use mathlib.Core.List.{List, [], _∷_, _++_}
 use lib.ListN.{length}
 use Rattle.defs.specs.Ladder.{recordAnswer}
 use Rattle.defs.specs.Choice.{when}
 use Rattle.defs.specs.Answer.{told}
 use Rattle.defs.specs.declared.answer.Answer.the-variants.{Done, NotQueued}
-use Rattle.conn_map.specs.declared.key.ConnMapKey.{ConnMapKey}
 use Rattle.conn_map.specs.Places.{hasRoom}
 use Rattle.conn_map.specs.Queued.{QueuedLeft, calledOf}
+use Rattle.conn_map.specs.declared.key.ConnMapKey.{ConnMapKey}
 use Rattle.muxer_killq.specs.Queue.{soundQ, items, pack}
 use Rattle.muxer_killq.specs.declared.item.MuxerKillQItem.{MuxerKillQItem}
 use Rattle.muxer_killq.specs.declared.queue.MuxerKillQ.{MuxerKillQ}
@@ -30,6 +30,10 @@ pushList l limit synced it =
     when (hasRoom synced (length l) limit)
     (record { answer = told Done; queue = pack (l ++ (it ∷ [])) limit synced })
     (record { answer = told NotQueued; queue = pack l limit false })
+
+-- 01, answer 11: full or unsynced
+abbrev pub turnsDown : List MuxerKillQItem → ℕ → Bool → Bool
+turnsDown l limit synced = not (hasRoom synced (length l) limit)
 
 -- of a sound queue; a refusal changes nothing
 unfoldable pub pushOf : PushIn → QueuedLeft MuxerKillQ

@@ -1,5 +1,4 @@
 // Pushing, behind all others whatever the time: a push that is turned down loses sync.
-ghost use mathlib.Core.Path.{_≡_};
 ghost use Rattle.defs.specs.Answer.{told};
 ghost use Rattle.conn_map.specs.Queued.{QueuedLeft};
 ghost use Rattle.muxer_killq.specs.Push.{PushIn, PushSays};

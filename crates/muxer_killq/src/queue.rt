@@ -49,7 +49,7 @@ impl MuxerKillQ {
         }
     }
 
-    pub fn is_sound(self) -> bool
+    pub(crate) fn is_sound(self) -> bool
         ensures { λ r. ⌜ r ≡ soundQ self ⌝ }
     {
         limits::is_killq_limit(self.limit) & (self.len <= self.limit) & is_clear(self)

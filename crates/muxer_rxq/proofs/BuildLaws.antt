@@ -8,8 +8,8 @@ use Rattle.defs.specs.Ladder.{recordAnswer}
 use Rattle.defs.specs.Limits.{maxRxq, isRxqLimit}
 use Rattle.defs.specs.declared.answer.Answer.{Answer}
 use Rattle.defs.specs.declared.answer.Answer.the-variants.{Done}
-use Rattle.conn_map.specs.Table.{usedAt, slotsOf, soundTable}
 use Rattle.defs.proofs.LadderLaws.{record-passed}
+use Rattle.conn_map.specs.Table.{usedAt, slotsOf, soundTable}
 use Rattle.conn_map.proofs.PlacesLaws.{Made}
 use Rattle.conn_map.proofs.WalkLaws as walks
 use Rattle.muxer_rxq.specs.Queue.{zeroItem, pack}

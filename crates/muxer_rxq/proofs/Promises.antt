@@ -1,11 +1,15 @@
 -- The promises of specs/Promises, each by its law. Assumes nothing.
 use Rattle.defs.proofs.Pins.{by-equation}
-use Rattle.muxer_rxq.specs.Promises.{QueueIsItsList, EdgesHold, EachCallPinned}
+use Rattle.muxer_rxq.specs.Promises.{QueueIsItsList, PushAnswers, EdgesHold, EachCallPinned}
 use Rattle.muxer_rxq.proofs.Edges as edges
 use Rattle.muxer_rxq.proofs.QueueLaws as queues
+use Rattle.muxer_rxq.proofs.PushLaws as pushes
 
 pub queue-is-its-list : QueueIsItsList
 queue-is-its-list = queues.queue-is-its-list
+
+pub push-answers : PushAnswers
+push-answers = pushes.push-answers
 
 pub edges-hold : EdgesHold
 edges-hold = edges.edges-hold
@@ -17,7 +21,6 @@ each-call-pinned = record {
   push = by-equation _ _ _;
   peek = by-equation _ _ _;
   pop = by-equation _ _ _;
-  is-sound = by-equation _ _ _;
   is-synced = by-equation _ _ _;
   len = by-equation _ _ _;
   is-empty = by-equation _ _ _;

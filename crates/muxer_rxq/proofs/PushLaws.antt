@@ -1,7 +1,7 @@
 -- Laws of `push`: the rearmost connection by a falling index, and each end of the call. Assumes nothing.
 use Prim.Native.Nat.{ℕ, suc, _+_, _-_, _≤_, _<_}
-use mathlib.Core.Path.{_≡_, ap, sym, _∙_}
-use mathlib.Core.Bool.{Bool, true, false}
+use mathlib.Core.Path.{_≡_, refl, ap, sym, _∙_}
+use mathlib.Core.Bool.{Bool, true, false, not, _&&_, _||_}
 use mathlib.Core.List.{List, [], _∷_, _++_}
 use native.Mathlib.Omega.{arith}
 use borrow.Author.Tests.{ne-eqb, eq-eqb}
@@ -16,13 +16,14 @@ use Rattle.defs.specs.declared.answer.Answer.{Answer}
 use Rattle.defs.specs.declared.answer.Answer.the-variants.{Done, NotQueued}
 use Rattle.defs.proofs.ChoiceLaws.{when-true, when-false}
 use Rattle.defs.proofs.AnswerLaws.{NotDone}
+use Rattle.defs.proofs.LadderLaws.{by-first-row, record-passed}
 use Rattle.conn_map.specs.Places.{hasRoom}
 use Rattle.conn_map.specs.Queued.{QueuedLeft}
-use Rattle.defs.proofs.LadderLaws.{record-passed}
-use Rattle.conn_map.proofs.QueuedLaws.{called-kept, called-done}
+use Rattle.conn_map.proofs.QueuedLaws.{called-kept, called-done, pushed-number}
 use Rattle.conn_map.proofs.PlacesLaws.{positive, room-is, room-within, appended, one-more, replaced, as-many}
 use Rattle.muxer_rxq.specs.Queue.{zeroItem, soundQ, items, pack}
-use Rattle.muxer_rxq.specs.Push.{lastConn, evictList, pushList, pushOf}
+use Rattle.muxer_rxq.specs.Push.{lastConn, evictList, pushList, turnsDown, pushOf}
+use Rattle.muxer_rxq.specs.Promises.{PushAnswers}
 use Rattle.muxer_rxq.specs.declared.queue.MuxerRx.{MuxerRx}
 use Rattle.muxer_rxq.specs.declared.queue.MuxerRxQ.{MuxerRxQ}
 use Rattle.muxer_rxq.proofs.QueueLaws.{Sound, sound-says, packs, sound-packed}
@@ -131,3 +132,22 @@ module _ (q : MuxerRxQ) (rx : MuxerRx) (a : Answer) (e : a ≡ recordAnswer (sou
       pub push-evicts : (x : QueuedLeft MuxerRxQ) → rx .rst ≡ true → x ≡ evictList (items q) (q .limit) (q .synced) rx → x ≡ pushOf (record { queue = q; rx = rx })
       unfolding pushList
       push-evicts x r f = f ∙ sym (by-list ∙ when-false _ _ _ full ∙ when-true _ _ _ r)
+
+-- ---- which number
+
+by-tests : (room rst none : Bool) (a b c d : QueuedLeft MuxerRxQ) → a .answer .number ≡ 0 → b .answer .number ≡ 11 → c .answer .number ≡ 0 → d .answer .number ≡ 11
+    → when room a (when rst (when none b c) d) .answer .number ≡ when (not room && (not rst || none)) 11 0
+unfolding when
+by-tests true rst none a b c d e f g h = e
+by-tests false true true a b c d e f g h = f
+by-tests false true false a b c d e f g h = g
+by-tests false false none a b c d e f g h = h
+
+pub push-answers : PushAnswers
+unfolding pushOf pushList evictList
+push-answers i left says =
+    let q = i .queue in
+    by-first-row (left .answer) _
+    (ap (λ (o : QueuedLeft MuxerRxQ). o .answer .number) says
+    ∙ pushed-number (soundQ q) (turnsDown (items q) (q .limit) (q .synced) (i .rx)) _ q
+    (by-tests (hasRoom (q .synced) (length (items q)) (q .limit)) (i .rx .rst) (eqb (lastConn (items q)) 0) _ _ _ _ refl refl refl refl))

@@ -1,7 +1,7 @@
 -- `push` (01, "The two queues"). Assumes nothing.
 use Prim.Native.Nat.{ℕ, _+_, _-_}
 use mathlib.Core.Path.{_≡_}
-use mathlib.Core.Bool.{Bool, false}
+use mathlib.Core.Bool.{Bool, false, not, _&&_, _||_}
 use mathlib.Core.List.{List, [], _∷_, _++_}
 use lib.Dec.{eqb}
 use lib.ListN.{length, set}
@@ -40,6 +40,10 @@ pushList l limit synced rx =
     when (hasRoom synced (length l) limit)
     (left Done (l ++ (rx ∷ [])) limit synced)
     (when (rx .rst) (evictList l limit synced rx) (left NotQueued l limit false))
+
+-- 01, answer 11: no room, and a connection, or an RST that finds no connection to replace
+abbrev pub turnsDown : List MuxerRx → ℕ → Bool → MuxerRx → Bool
+turnsDown l limit synced rx = not (hasRoom synced (length l) limit) && (not (rx .rst) || eqb (lastConn l) 0)
 
 -- of a sound queue; a refusal changes nothing
 unfoldable pub pushOf : PushIn → QueuedLeft MuxerRxQ

@@ -54,7 +54,7 @@ impl MuxerRxQ {
         }
     }
 
-    pub fn is_sound(self) -> bool
+    pub(crate) fn is_sound(self) -> bool
         ensures { λ r. ⌜ r ≡ soundQ self ⌝ }
     {
         limits::is_rxq_limit(self.limit) & (self.len <= self.limit) & is_clear(self)

@@ -22,7 +22,7 @@ use Rattle.defs.specs.declared.answer.Answer.the-variants.{Done, BadRecord, Bad
 use Rattle.defs.specs.declared.stream.StreamAnswer.{StreamAnswer}
 use Rattle.defs.specs.declared.stream.StreamAnswer.the-variants.{Count, WouldBlock, Failed}
 use Rattle.defs.proofs.StreamLaws.{NotCount, takes-none, not-count-stops, stopped-takes-none}
-use Rattle.defs.proofs.Basics.{never, lt-or-ge, true-or-false, neither}
+use Rattle.defs.proofs.Basics.{never, lt-or-ge, true-or-false, neither, and-false}
 use Rattle.defs.proofs.ChoiceLaws.{when-true, when-false, when-same}
 use Rattle.defs.proofs.AnswerLaws.{NotDone, not-done, is-done, done-is-done, when-done, when-not-done, told-tells-apart}
 use Rattle.defs.proofs.LadderLaws.{lowest-passed, door-passed, late-passed, lowest-done, lowest-refused, lowest-end}
@@ -128,10 +128,6 @@ over-cong R (a ∷ l) n h k e =
 blocked-takes-none : (R t n : ℕ) → takenBy R t n (WouldBlock ∷ []) ≡ 0
 unfolding takenBy
 blocked-takes-none R t n = ap (λ (m : ℕ). when (eqb n 0) 0 (0 + m)) (when-same 0 (eqb 0 (pieceLen R t n))) ∙ when-same 0 (eqb n 0)
-
-and-false : (b : Bool) → b && false ≡ false
-and-false true = refl
-and-false false = refl
 
 blocked-not-over : (R t n : ℕ) → overBy R t n (WouldBlock ∷ []) ≡ false
 unfolding overBy

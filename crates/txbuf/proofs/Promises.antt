@@ -1,4 +1,4 @@
--- The promises of specs/Promises, each by its law. Assumes nothing.
+-- The promises of specs/Promises and specs/Answers, each by its law. Assumes nothing.
 use mathlib.Core.Path.{refl}
 use Rattle.defs.specs.Choice.{when}
 use Rattle.defs.specs.Answer.{isDone, whenDone}

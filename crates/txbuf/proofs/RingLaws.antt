@@ -35,11 +35,6 @@ write-append R (x ∷ a) b st h =
     write-append R a b (set st (h % R) x) (suc h)
     ∙ ap (λ (k : ℕ). written (written (set st (h % R) x) R (suc h) a) R k b) (suc-add h (length a) ∙ sym (add-suc h (length a)))
 
-pub length-write : (R : ℕ) (src st : List ℕ) (h : ℕ) → length (written st R h src) ≡ length st
-unfolding written
-length-write R [] st h = refl
-length-write R (x ∷ xs) st h = length-write R xs (set st (h % R) x) (suc h) ∙ length-set st (h % R) x
-
 -- the next offset, where it does not wrap
 suc-at : (R h a : ℕ) → h % R ≡ a → suc a < R → suc h % R ≡ suc a
 suc-at R h a e l = suc-mod h R ∙ ap (λ (i : ℕ). suc i % R) e ∙ mod-eq-of-lt l

@@ -1,4 +1,5 @@
--- Which answer a call on a ring gives (01, "What comes back"): n exactly when row n's test holds and no lower row's. Assumes nothing.
+-- Which number a call on a ring answers (01, "What comes back"): n exactly when row n's test holds and no lower row's. Rows in order from 1; of 10
+-- `FlushSays` tells which kind. Assumes nothing.
 use Prim.Native.Nat.{_+_}
 use mathlib.Core.Bool.{Bool, false, not, _&&_}
 use mathlib.Core.List.{List, [], _∷_}
@@ -11,7 +12,7 @@ use Rattle.txbuf.specs.Record.{usedOf, soundOf}
 use Rattle.txbuf.specs.Push.{PushIn, PushLeft, PushSays}
 use Rattle.txbuf.specs.Flush.{FlushIn, FlushLeft, FlushSays, flushCount, flushOver}
 
--- `push`: 1 not sound, 4 over 65,536 bytes, 9 held plus new exceeds R
+-- `push`: 1 not sound, 4 over 65,536 bytes, 9 held plus new exceeds R (the storage's length, where row 1 passes)
 abbrev pub pushTests : PushIn → List Bool
 pushTests i =
     not (soundOf (i .ring) (length (i .store)))

@@ -10,7 +10,7 @@ returns c =
     let t = l .before in
     let s = t .before in
     let y = s .before in
-    rw (c .spoken .ensures, l .left .ensures, t .timer-after .ensures, s .state-after .ensures, y .later-by2 .ensures, y .before .later-by .ensures)
+    rw (c .spoken .ensures, l .remaining .ensures, t .timer-after .ensures, s .state-after .ensures, y .later-by2 .ensures, y .before .later-by .ensures)
 
 pub received-spec : {M : Type 1} → statement M
 received-spec = tie.close (tie.spec (search needs) (search needs) (search needs) (search needs) (search needs) (search needs) returns)

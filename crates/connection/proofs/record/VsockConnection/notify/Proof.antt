@@ -2,8 +2,8 @@
 use borrow.Author.Needs.{needs}
 use denote.Ref.{now}
 use mathlib.Core.Path.{refl, sym, _∙_}
-use Rattle.txbuf.specs.Flush.{FlushLeft}
 use Rattle.defs.specs.Answer.{told}
+use Rattle.txbuf.specs.Flush.{FlushLeft}
 use Rattle.connection.specs.Notify.{NotifyIn}
 use Rattle.connection.proofs.NotifyLaws.{Flushing, flushing, flush-within, notify-refused, notify-seen, notify-kept, notify-done}
 use Rattle.connection.proofs.record.VsockConnection.notify.Statement.{statement}

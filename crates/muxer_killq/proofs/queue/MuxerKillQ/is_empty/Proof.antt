@@ -4,8 +4,8 @@ use borrow.Author.Needs.{needs}
 use lib.ListN.{length}
 use lib.Dec.{eqb}
 use Rattle.defs.specs.Limits.{maxKillq}
-use Rattle.conn_map.proofs.PlacesLaws.{long}
 use Rattle.defs.proofs.LookLaws.{record-flag-told}
+use Rattle.conn_map.proofs.PlacesLaws.{long}
 use Rattle.muxer_killq.proofs.QueueLaws.{sound-says}
 use Rattle.muxer_killq.proofs.queue.MuxerKillQ.is_empty.Statement.{statement}
 use Rattle.muxer_killq.proofs.queue.MuxerKillQ.is_empty.Tie as tie

@@ -4,8 +4,8 @@ use borrow.Author.Needs.{needs}
 use lib.ListN.{length}
 use lib.Dec.{eqb}
 use Rattle.defs.specs.Limits.{maxRxq}
-use Rattle.conn_map.proofs.PlacesLaws.{long}
 use Rattle.defs.proofs.LookLaws.{record-flag-told}
+use Rattle.conn_map.proofs.PlacesLaws.{long}
 use Rattle.muxer_rxq.proofs.QueueLaws.{sound-says}
 use Rattle.muxer_rxq.proofs.queue.MuxerRxQ.is_full.Statement.{statement}
 use Rattle.muxer_rxq.proofs.queue.MuxerRxQ.is_full.Tie as tie

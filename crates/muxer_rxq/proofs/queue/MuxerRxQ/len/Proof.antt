@@ -2,8 +2,8 @@ use mathlib.Core.Path.{_≡_, sym}
 use borrow.Author.Needs.{needs}
 use lib.ListN.{length}
 use Rattle.defs.specs.Limits.{maxRxq}
-use Rattle.conn_map.proofs.PlacesLaws.{long}
 use Rattle.defs.proofs.LookLaws.{record-len-told}
+use Rattle.conn_map.proofs.PlacesLaws.{long}
 use Rattle.muxer_rxq.proofs.QueueLaws.{sound-says}
 use Rattle.muxer_rxq.proofs.queue.MuxerRxQ.len.Statement.{statement}
 use Rattle.muxer_rxq.proofs.queue.MuxerRxQ.len.Tie as tie

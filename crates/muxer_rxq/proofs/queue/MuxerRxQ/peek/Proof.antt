@@ -3,8 +3,8 @@ use borrow.Author.Needs.{needs}
 use lib.ListN.{length}
 use Rattle.defs.specs.Ladder.{recordAnswer}
 use Rattle.defs.specs.Limits.{maxRxq}
-use Rattle.conn_map.proofs.PlacesLaws.{long, positive, none-held, front-first}
 use Rattle.defs.proofs.LadderLaws.{record-passed}
+use Rattle.conn_map.proofs.PlacesLaws.{long, positive, none-held, front-first}
 use Rattle.conn_map.proofs.LookLaws.{peek-kept, peek-none, peek-front}
 use Rattle.muxer_rxq.specs.Queue.{soundQ}
 use Rattle.muxer_rxq.proofs.QueueLaws.{sound-says}
