@@ -2,7 +2,7 @@
 use Prim.Native.Nat.{ℕ}
 use mathlib.Core.Path.{_≡_, refl, ap, _∙_}
 use mathlib.Core.Bool.{Bool, true, false}
-use Rattle.defs.specs.Answer.{told}
+use Rattle.defs.specs.Answer.{Told, told, whenDone}
 use Rattle.defs.specs.Ladder.{recordAnswer}
 use Rattle.defs.specs.Look.{FlagLeft, flagOf, LenLeft, lenOf}
 use Rattle.defs.specs.declared.answer.Answer.{Answer}
@@ -10,15 +10,18 @@ use Rattle.defs.specs.declared.answer.Answer.the-variants.{Done}
 use Rattle.defs.proofs.AnswerLaws.{when-done-alike}
 use Rattle.defs.proofs.LadderLaws.{record-passed}
 
+told-alike : {A Out : Type 0} (make : Told → A → Out) (none : A) (left : Out) (a b : Answer) (x y : A) → left ≡ make (told a) (whenDone a x none) → a ≡ b
+    → (b ≡ Done → x ≡ y) → left ≡ make (told b) (whenDone b y none)
+told-alike make none left a b x y e f alike =
+    e ∙ ap (λ (c : Answer). make (told c) (whenDone c x none)) f ∙ ap (make (told b)) (when-done-alike b x y none alike)
+
 pub flag-told : (left : FlagLeft) (a b : Answer) (x y : Bool) → left ≡ flagOf a x → a ≡ b → (b ≡ Done → x ≡ y) → left ≡ flagOf b y
 unfolding flagOf
-flag-told left a b x y e f alike =
-    e ∙ ap (λ (c : Answer). flagOf c x) f ∙ ap (λ (v : Bool). record { answer = told b; holds = v }) (when-done-alike b x y false alike)
+flag-told left a b x y e f alike = told-alike (λ t v. record { answer = t; holds = v }) false left a b x y e f alike
 
 pub len-told : (left : LenLeft) (a b : Answer) (x y : ℕ) → left ≡ lenOf a x → a ≡ b → (b ≡ Done → x ≡ y) → left ≡ lenOf b y
 unfolding lenOf
-len-told left a b x y e f alike =
-    e ∙ ap (λ (c : Answer). lenOf c x) f ∙ ap (λ (v : ℕ). record { answer = told b; len = v }) (when-done-alike b x y 0 alike)
+len-told left a b x y e f alike = told-alike (λ t v. record { answer = t; len = v }) 0 left a b x y e f alike
 
 -- ---- of a call that tests nothing but its record
 
