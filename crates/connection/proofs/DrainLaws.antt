@@ -1,11 +1,11 @@
 -- A ring of n bytes is empty after n out-events. Assumes nothing.
-use Prim.Native.Nat.{ℕ, zero, suc, _+_, _≤_, _<_}
+use Prim.Native.Nat.{ℕ, zero, suc, _+_, _-_, _≤_, _<_}
 use mathlib.Core.Path.{_≡_, refl, sym, ap, _∙_}
 use mathlib.Core.Logic.{⊎-elim}
 use mathlib.Core.Bool.{Bool, true, false, not, _&&_}
-use mathlib.Core.List.{List, [], _∷_, append-nil}
+use mathlib.Core.List.{List, [], append-nil}
 use native.Mathlib.Omega.{arith}
-use native.Mathlib.Nat.{le-refl, le-trans, not-suc-le-zero}
+use native.Mathlib.Nat.{le-refl, not-suc-le-zero}
 use lib.Dec.{ltb, leb, eqb}
 use lib.ListN.{length, length-append}
 use borrow.Author.Tests.{eqb-true, eqb-false, leb-true, not-true, not-false}
@@ -21,6 +21,7 @@ use Rattle.defs.proofs.Basics.{never, both, true-or-false}
 use Rattle.defs.proofs.ChoiceLaws.{when-true, when-false, when-same}
 use Rattle.defs.proofs.AnswerLaws.{is-done, when-done, when-not-done, number-zero}
 use Rattle.defs.proofs.LadderLaws.{lowest-passed, lowest-end}
+use Rattle.runs.proofs.Promises as any
 use Rattle.txbuf.specs.Record.{usedOf, soundOf, held}
 use Rattle.txbuf.specs.Push.{pushDone}
 use Rattle.txbuf.specs.Flush.{FlushIn, endsBy, flushCount, flushOver, flushAnswer}
@@ -31,10 +32,10 @@ use Rattle.connection.specs.Record.{quiet}
 use Rattle.connection.specs.Moves.{Account, account, Numbers, Moved}
 use Rattle.connection.specs.Send.{carried, SendIn, SendLeft, pktOf, sendPlan, sendAnswer, sendKills, sendCarried, sendDone, sendKept, sendOf}
 use Rattle.connection.specs.Notify.{absorbed, NotifyIn, NotifyLeft, due, flushIn, flushed, notifyAnswer, notifyDone, notifyKept, notifyOf}
-use Rattle.connection.specs.Runs.{Event, sends, receives, notifies, kills, looks, before, after, Made, Steps, none, then, isOut, outs, Pushless, Drains}
+use Rattle.connection.specs.Runs.{Event, sends, receives, notifies, kills, looks, after, Made, connections, isOut, HeadStays, Drains}
 use Rattle.connection.specs.declared.record.VsockConnection.{VsockConnection}
 use Rattle.connection.proofs.MovesLaws.{goes-is-rw, rule-counts, rule-keeps, drain-counts, receive-keeps, kill-keeps}
-use Rattle.connection.proofs.RunLaws.{event-moves, run-numbers}
+use Rattle.connection.proofs.RunLaws.{event-moves, numbers-kept, run-numbers}
 
 -- how many bytes a connection holds
 abbrev heldBy : VsockConnection → ℕ
@@ -75,7 +76,7 @@ notify-lengths c d x y taken m =
     let e = ap length (m .bytes ∙ append-nil (held (c .«tx_buf») x)) in
     omega (arith, e, length-append taken (held (d .«tx_buf») y), held-length (d .«tx_buf») y, held-length (c .«tx_buf») x)
 
-least : (d : VsockConnection) (s : List ℕ) (e : Event) → Numbers d → Made d s e → after e .«tx_buf» .head ≡ before e .«tx_buf» .head → heldBy (after e) ≤ heldBy d
+least : (d : VsockConnection) (s : List ℕ) (e : Event) → Numbers d → Made d s e → HeadStays e → heldBy (after e) ≤ heldBy d
 unfolding account
 least d s (sends i o) n m h =
     let t : o .conn .«tx_buf» .tail ≡ i .conn .«tx_buf» .tail = ap (λ (x : SendLeft). x .conn .«tx_buf» .tail) (m .2) ∙ send-tail i in
@@ -163,10 +164,10 @@ some-held i u = let e = eqb-false (heldBy (i .conn)) 0 (not-true _ (both (i .wri
     positive zero e = absurd (e refl)
     positive (suc n) e = omega arith
 
-out-falls : (d : VsockConnection) (s : List ℕ) (e : Event) (n : ℕ) → Numbers d → Made d s e → isOut e ≡ true → heldBy d ≤ suc n → heldBy (after e) ≤ n
-out-falls d s (sends i o) n w m x b = absurd (never x)
-out-falls d s (receives i o) n w m x b = absurd (never x)
-out-falls d s (notifies i o) n w m x b =
+out-falls : (d : VsockConnection) (s : List ℕ) (e : Event) → Numbers d → Made d s e → isOut e ≡ true → heldBy (after e) ≤ heldBy d - 1
+out-falls d s (sends i o) w m x = absurd (never x)
+out-falls d s (receives i o) w m x = absurd (never x)
+out-falls d s (notifies i o) w m x =
     let p = both (i .writable && eqb (o .answer .number) 0) _ x in
     let q = both (i .writable) (eqb (o .answer .number) 0) (p .0) in
     let a : notifyAnswer i ≡ Done = answered i (ap (λ (y : NotifyLeft). y .answer .number) (sym (m .2)) ∙ eqb-true _ _ (q .1)) in
@@ -180,35 +181,11 @@ out-falls d s (notifies i o) n w m x b =
     omega arith)
     (λ (u : due i ≡ false). let z = flushes i (q .0) u in omega arith)
     (true-or-false (due i))
-out-falls d s (kills c o) n w m x b = absurd (never x)
-out-falls d s (looks l) n w m x b = absurd (never x)
+out-falls d s (kills c o) w m x = absurd (never x)
+out-falls d s (looks l) w m x = absurd (never x)
 
 -- ---- over the calls
 
-numbers-on : {c : VsockConnection} {store : List ℕ} {u : List Event} {d : VsockConnection} {s : List ℕ} → Numbers c → Steps c store u d s → Numbers d
-numbers-on n none = n
-numbers-on n (then {t} {d} {s} r e m) = event-moves d s e (numbers-on n r) m .numbers
-
-outs-none : outs [] ≡ 0
-unfolding outs
-outs-none = refl
-
-outs-yes : (e : Event) (t : List Event) → isOut e ≡ true → outs (e ∷ t) ≡ suc (outs t)
-unfolding outs
-outs-yes e t x = when-true _ _ _ x
-
-outs-no : (e : Event) (t : List Event) → isOut e ≡ false → outs (e ∷ t) ≡ outs t
-unfolding outs
-outs-no e t x = when-false _ _ _ x
-
-drain : {c : VsockConnection} {store : List ℕ} {u : List Event} {d : VsockConnection} {s : List ℕ} → Numbers c → Steps c store u d s → Pushless u → (n : ℕ) → heldBy c ≤ outs u + n → heldBy d ≤ n
-unfolding Pushless
-drain w none p n b = omega (arith, outs-none)
-drain {c} w (then {t} {d} {s} r e m) p n b = go (isOut e) refl (λ x. drain w r (p .1) n x) (λ x. drain w r (p .1) (suc n) x)
-  where
-    go : (x : Bool) → isOut e ≡ x → (heldBy c ≤ outs t + n → heldBy d ≤ n) → (heldBy c ≤ outs t + suc n → heldBy d ≤ suc n) → heldBy (after e) ≤ n
-    go true x ih more = out-falls d s e n (numbers-on w r) m x (more (omega (arith, outs-yes e t x)))
-    go false x ih more = le-trans (least d s e (numbers-on w r) m (p .0)) (ih (omega (arith, outs-no e t x)))
-
 pub drains : Drains
-drains s t u c d x y r v p b = let z = drain (run-numbers r) v p 0 (omega arith) in omega arith
+drains s t u c d x y r v p b =
+    any.drains connections Numbers heldBy HeadStays isOut numbers-kept (record { stays = least; falls = out-falls }) c d x y u (run-numbers r) v p b

@@ -13,6 +13,8 @@ use Rattle.defs.proofs.Basics.{never, both, true-or-false}
 use Rattle.defs.proofs.ChoiceLaws.{when-holds}
 use Rattle.packet.specs.Uapi.{opResponse, opShutdown, opRw, opCreditRequest}
 use Rattle.packet.specs.declared.hdr.VsockPacketHdr.{VsockPacketHdr}
+use Rattle.runs.specs.Promises.{Keeps}
+use Rattle.runs.proofs.Promises as any
 use Rattle.txbuf.specs.declared.record.TxBuf.{TxBuf}
 use Rattle.csm.specs.State.{isLocalInit, shutBy, bothOff, recvOff, sendOff, Grown, grown, closed, dead}
 use Rattle.csm.specs.Row.{afterwards}
@@ -29,7 +31,7 @@ use Rattle.connection.specs.Look.{lookAnswer, killOf}
 use Rattle.connection.specs.Receive.{spokenOf, receivedOf, RecvIn, RecvLeft, refusalOf, saidBy, recvDone, recvKept, recvOf}
 use Rattle.connection.specs.Send.{SendLeft, heardOf, movedOf, updatedOf, onResponse, onShutdown, onCreditRequest, onData, ruleOf, SendIn, pktOf, sendPlan, sendAnswer, sendKills, sendCarried, sendDone, sendKept, sendOf}
 use Rattle.connection.specs.Notify.{NotifyLeft, seenOf, settledOf, drainedOf, NotifyIn, due, flushed, notifyAnswer, notifyDone, notifyKept, notifyOf}
-use Rattle.connection.specs.Runs.{Event, sends, receives, notifies, kills, looks, after, Made, Steps, none, then, Opens, FlagsOnlyGrow}
+use Rattle.connection.specs.Runs.{Event, sends, receives, notifies, kills, looks, after, Made, connections, Opens, FlagsOnlyGrow}
 use Rattle.connection.specs.declared.record.VsockConnection.{VsockConnection}
 use Rattle.connection.specs.declared.send.SendPlan.{SendPlan}
 
@@ -218,9 +220,8 @@ by-call c store (notifies i o) m = rw (← (m .0), m .2) (turned _ _ (by-event i
 by-call c store (kills d o) m = rw (← (m .0), m .1) (turned _ _ (by-kill d))
 by-call c store (looks l) m = rw (m .0) (turned _ _ (same c))
 
-fits-on : {c : VsockConnection} {store : List ℕ} {t : List Event} {d : VsockConnection} {s : List ℕ} → Fit c → Steps c store t d s → Fit d
-fits-on f none = f
-fits-on f (then {t} {d} {s} r e m) = by-call d s e m .fits (fits-on f r)
+fits : Keeps connections Fit
+fits c store e f m = by-call c store e m .fits f
 
 fresh-fits : (o : Opening) (state : ConnState) (p : PendingRxSet) → (p .response ≡ true → Early state) → Fit (freshOf o state p)
 unfolding freshOf
@@ -237,4 +238,5 @@ opening-fits false o left e =
     rw e (fit-either (isDone (openAnswer (o .size) (o .settings))) _ _ (fresh-fits _ LocalInit _ (λ x. absurd (never x))) (fresh-fits _ LocalInit _ (λ x. absurd (never x))))
 
 pub flags-only-grow : FlagsOnlyGrow
-flags-only-grow s t c store r e m = by-call c store e m .grow (fits-on (opening-fits (s .guest) (s .given) (s .left) (r .opened)) (r .steps))
+flags-only-grow s t c store r e m =
+    by-call c store e m .grow (any.every-run-keeps connections Fit fits _ _ _ _ _ (opening-fits (s .guest) (s .given) (s .left) (r .opened)) (r .steps))

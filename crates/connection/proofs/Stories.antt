@@ -12,6 +12,8 @@ use Rattle.defs.specs.Copying.{copied}
 use Rattle.defs.specs.Credit.{peerAvailCredit, peerNeedsCreditUpdate}
 use Rattle.packet.specs.Header.{encoded, decoded}
 use Rattle.packet.specs.Edges.{bytesA}
+use Rattle.runs.specs.Runs as runs
+use Rattle.runs.specs.Runs.{none, then, gathered, Each}
 use Rattle.txbuf.specs.Record.{usedOf, soundRecord, soundOf, heldFrom, held}
 use Rattle.txbuf.specs.Push.{runs, pushDone}
 use Rattle.txbuf.specs.Flush.{takenBy, overBy, endsBy, flushCount, flushOver, flushAnswer, flushDone, flushKept, flushOf}
@@ -23,7 +25,7 @@ use Rattle.connection.specs.Open.{freshOf, openAnswer, peerInitOf, local
 use Rattle.connection.specs.Moves.{sendTaken, notifyTaken}
 use Rattle.connection.specs.Receive.{spokenOf, receivedOf, headerOf, recvDoor, recvRefusal, recvDone, recvKept, recvOf}
 use Rattle.connection.specs.Send.{heardOf, movedOf, updatedOf, onResponse, onShutdown, onData, ruleOf, goesOf, planOf, killsOf, sendDoorOf, sendLate, carried, sendDoor, sendAnswer, sendDone, sendKept, sendOf, accepted}
-use Rattle.connection.specs.Runs.{before, after, storeAfter, Steps, none, then, Run, tookBy, acceptedBy, deliveredBy, gathered, outs, Pushless}
+use Rattle.connection.specs.Runs.{before, after, storeAfter, Steps, Run, tookBy, acceptedBy, deliveredBy, outs}
 use Rattle.connection.specs.Stories.{startA, a1, a2, a3, a4, a5, a6, a7, storeA, storyA, upToA5, endStoreA, startB, b1, b2, b3, b4, storyB, endStoreB, c3, c4, storyC, endStoreC, d2, storeD, d3, d4, d5, draining, startE, e1, e2, e3, e4, e5, storyE, endStoreE, ten, StoriesHold}
 use Rattle.connection.proofs.RunLaws.{every-run-forwards, cuts-do-not-matter}
 use Rattle.connection.proofs.FlagLaws.{flags-only-grow}
@@ -88,7 +90,7 @@ record Computed : Type 0 where
   outs-2 : outs draining ≡ 2
 
 computed : Computed
-unfolding when isDone whenDone isRingSize isThreshold isTimeout isClock isPacketLength isHeaderLength doorOf lateOf lowestOf recordAnswer clockAnswer copied peerAvailCredit peerNeedsCreditUpdate encoded decoded soundRecord soundOf heldFrom held runs pushDone takenBy overBy endsBy flushCount flushOver flushAnswer flushDone flushKept flushOf okSettings soundConn soundOver quiet creditOf withState killedOf seenOf absorbed settledOf drainedOf notifyDoor notifyAnswer notifyDone notifyKept notifyOf freshOf openAnswer peerInitOf localInitOf sendTaken notifyTaken turnStep spokenOf receivedOf headerOf recvDoor turnReads recvRefusal recvDone recvKept recvOf heardOf movedOf updatedOf onResponse onShutdown onData ruleOf goesOf planOf killsOf sendDoorOf sendLate carried sendDoor sendAnswer sendDone sendKept sendOf accepted gathered outs
+unfolding when isDone whenDone isRingSize isThreshold isTimeout isClock isPacketLength isHeaderLength doorOf lateOf lowestOf recordAnswer clockAnswer copied peerAvailCredit peerNeedsCreditUpdate encoded decoded soundRecord soundOf heldFrom held runs pushDone takenBy overBy endsBy flushCount flushOver flushAnswer flushDone flushKept flushOf okSettings soundConn soundOver quiet creditOf withState killedOf seenOf absorbed settledOf drainedOf notifyDoor notifyAnswer notifyDone notifyKept notifyOf freshOf openAnswer peerInitOf localInitOf sendTaken notifyTaken turnStep spokenOf receivedOf headerOf recvDoor turnReads recvRefusal recvDone recvKept recvOf heardOf movedOf updatedOf onResponse onShutdown onData ruleOf goesOf planOf killsOf sendDoorOf sendLate carried sendDoor sendAnswer sendDone sendKept sendOf accepted gathered runs.outs
 computed = record {
   taken-a = refl;
   accepted-a = refl;
@@ -116,7 +118,7 @@ computed = record {
 }
 
 two-drained : usedOf (after d5 .«tx_buf») ≡ 0
-unfolding Pushless
+unfolding Each
 two-drained =
     let v = computed in
     drains startA (d2 ∷ a1 ∷ []) draining (after d2) (after d5) storeD storeD up-to-d2 drain-steps

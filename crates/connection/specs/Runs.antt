@@ -1,15 +1,17 @@
--- Runs of calls on one connection, from its opening: lists of calls with what each left. What is said of a run is a function of its list.
+-- Runs of calls on one connection, from its opening: `runs` says what a run of any machine is, and here is the machine.
 -- Raw sends are left out: they keep no account. Assumes nothing.
-use Prim.Native.Nat.{ℕ, suc, _%_, _^_, _≤_}
+use Prim.Native.Nat.{ℕ, _≤_}
 use mathlib.Core.Path.{_≡_}
 use mathlib.Core.Bool.{Bool, true, false, not, _&&_, _||_}
-use mathlib.Core.List.{List, [], _∷_, _++_}
-use lib.ListN.{length, take}
+use mathlib.Core.List.{List, [], _∷_}
+use lib.ListN.{take}
 use lib.Dec.{leb, eqb}
 use Rattle.defs.specs.Choice.{when}
 use Rattle.defs.specs.Stream.{counted}
 use Rattle.defs.specs.Look.{FlagLeft}
 use Rattle.defs.specs.declared.answer.Answer.{Answer}
+use Rattle.runs.specs.Runs as runs
+use Rattle.runs.specs.Runs.{Machine, gathered, Each, Account}
 use Rattle.txbuf.specs.Record.{usedOf, held}
 use Rattle.csm.specs.State.{Grown}
 use Rattle.csm.specs.declared.state.ConnState.the-variants.{PeerClosed}
@@ -121,10 +123,13 @@ Made c store (looks l) = (lookedAt l ≡ c) × LookSays l
 
 -- ---- runs
 
+-- THE CONNECTION AS A MACHINE: its record, the ring's storage that is lent beside it, and its calls
+abbrev pub connections : Machine
+connections = record { Record = VsockConnection; Lent = List ℕ; Event = Event; after = after; lentAfter = storeAfter; Made = Made }
+
 -- calls in turn from a record and a storage on, the newest first, and where they lead
-pub data Steps (c : VsockConnection) (store : List ℕ) : List Event → VsockConnection → List ℕ → Type 0 where
-  none : Steps c store [] c store
-  then : {t : List Event} {d : VsockConnection} {s : List ℕ} → Steps c store t d s → (e : Event) → Made d s e → Steps c store (e ∷ t) (after e) (storeAfter s e)
+abbrev pub Steps : VsockConnection → List ℕ → List Event → VsockConnection → List ℕ → Type 0
+Steps = runs.Steps connections
 
 -- an opening, by the guest or by the host, and the storage that goes with it, of any length
 pub record Start : Type 0 where
@@ -168,26 +173,25 @@ deliveredBy (notifies i o) = []
 deliveredBy (kills c o) = []
 deliveredBy (looks l) = []
 
--- over a run, oldest first
-unfoldable pub gathered : {A : Type 0} → (Event → List A) → List Event → List A
-gathered f [] = []
-gathered f (e ∷ t) = gathered f t ++ f e
+-- THE ACCOUNT of a connection: bytes that the stream took, accepted payload, what the ring holds, and fwd_cnt
+abbrev pub bytes : Account connections
+bytes = record { Item = ℕ; took = tookBy; accepted = acceptedBy; held = λ c store. held (c .«tx_buf») store; count = λ c. c .«fwd_cnt» }
 
 -- ---- what holds of every run
 
-pub record Forwards (t : List Event) (c : VsockConnection) (store : List ℕ) : Type 0 where
-  pub bytes : gathered tookBy t ++ held (c .«tx_buf») store ≡ gathered acceptedBy t
-  pub count : c .«fwd_cnt» ≡ length (gathered tookBy t) % 2 ^ 32
+-- taken ++ held is accepted, and fwd_cnt the number taken modulo 2^32
+abbrev pub Forwards : List Event → VsockConnection → List ℕ → Type 0
+Forwards = runs.Forwards connections bytes
 
 -- DEMAND 3: bytes the stream took, then bytes the ring holds, oldest first, are the accepted payload in order; fwd_cnt is the number taken
 abbrev pub EveryRunForwards : Type 0
 EveryRunForwards = (s : Start) (t : List Event) (c : VsockConnection) (store : List ℕ) → Run s t c store → Forwards t c store
 
--- two runs that accept the same bytes and end with empty rings gave the stream the same bytes and show the same count
-pub record Alike (t u : List Event) (c d : VsockConnection) : Type 0 where
-  pub taken : gathered tookBy t ≡ gathered tookBy u
-  pub count : c .«fwd_cnt» ≡ d .«fwd_cnt»
+-- the stream was given the same bytes, and the counts are the same
+abbrev pub Alike : List Event → List Event → VsockConnection → VsockConnection → Type 0
+Alike = runs.Alike connections bytes
 
+-- two runs that accept the same bytes and end with empty rings gave the stream the same bytes and show the same count
 abbrev pub CutsDoNotMatter : Type 0
 CutsDoNotMatter =
     (r s : Start) (t u : List Event) (c d : VsockConnection) (x y : List ℕ) → Run r t c x → Run s u d y → gathered acceptedBy t ≡ gathered acceptedBy u
@@ -207,14 +211,17 @@ isOut (notifies i o) = i .writable && eqb (o .answer .number) 0 && (not (due i) 
 isOut (kills c o) = false
 isOut (looks l) = false
 
-unfoldable pub outs : List Event → ℕ
-outs [] = 0
-outs (e ∷ t) = when (isOut e) (suc (outs t)) (outs t)
+-- how many of a run's calls are such
+abbrev pub outs : List Event → ℕ
+outs = runs.outs isOut
+
+-- a call pushes nothing: it leaves the head
+abbrev pub HeadStays : Event → Type 0
+HeadStays e = after e .«tx_buf» .head ≡ before e .«tx_buf» .head
 
 -- nothing is pushed: no call moves the head
-unfoldable pub Pushless : List Event → Type 0
-Pushless [] = Unit {0}
-Pushless (e ∷ t) = (after e .«tx_buf» .head ≡ before e .«tx_buf» .head) × Pushless t
+abbrev pub Pushless : List Event → Type 0
+Pushless = Each HeadStays
 
 -- 01: a ring of n bytes is empty after n such out-events, if nothing is pushed between; calls that push nothing may stand between
 abbrev pub Drains : Type 0

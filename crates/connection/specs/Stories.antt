@@ -10,6 +10,7 @@ use Rattle.defs.specs.declared.stream.ReadAnswer.the-variants.{WouldBlock as Re
 use Rattle.packet.specs.Uapi.{opResponse, opShutdown, opRw, typeStream}
 use Rattle.packet.specs.Header.{encoded}
 use Rattle.packet.specs.Edges.{bytesA}
+use Rattle.runs.specs.Runs.{gathered}
 use Rattle.txbuf.specs.Record.{usedOf}
 use Rattle.csm.specs.State.{Grown}
 use Rattle.csm.specs.declared.state.ConnState.the-variants.{PeerClosed, Killed}
@@ -17,7 +18,7 @@ use Rattle.connection.specs.Open.{Opening, peerInitOf, localInitOf}
 use Rattle.connection.specs.Receive.{RecvIn, recvOf}
 use Rattle.connection.specs.Send.{SendIn, sendOf}
 use Rattle.connection.specs.Notify.{NotifyIn, notifyOf}
-use Rattle.connection.specs.Runs.{Event, sends, receives, notifies, before, after, storeAfter, Start, Run, tookBy, acceptedBy, deliveredBy, gathered, Forwards, Alike}
+use Rattle.connection.specs.Runs.{Event, sends, receives, notifies, before, after, storeAfter, Start, Run, tookBy, acceptedBy, deliveredBy, Forwards, Alike}
 use Rattle.connection.specs.declared.record.VsockConnection.{VsockConnection}
 
 -- ---- what the stories are told with
