@@ -15,7 +15,7 @@ use Rattle.defs.specs.declared.stream.StreamAnswer.{StreamAnswer}
 use Rattle.defs.specs.declared.stream.StreamAnswer.the-variants.{Count, WouldBlock, Failed}
 use Rattle.defs.proofs.AnswerLaws.{answer-told}
 use Rattle.defs.proofs.ChoiceLaws.{ap-when}
-use Rattle.defs.proofs.LadderLaws.{firstRow, by-first-row, ladder-then, lowest-end, stop-number}
+use Rattle.defs.proofs.LadderLaws.{firstInTurn, by-turn, ladder-then, lowest-end, stop-number}
 use Rattle.txbuf.specs.Flush.{endsBy, flushAnswer, flushCount, flushOver}
 use Rattle.csm.specs.Turn.{hasNothing, lacksBuffer}
 use Rattle.csm.proofs.TurnLaws.{turn-number}
@@ -34,9 +34,9 @@ unfolding sendOf sendDone sendKept
 send-told i = answer-told (λ (o : SendLeft). o .answer) (sendAnswer i) (sendDone i) (sendKept i) refl refl
 
 pub send-answers : SendAnswers
-unfolding sendAnswer sendDoor sendDoorOf sendLate
+unfolding sendAnswer sendDoor sendDoorOf sendLate when
 send-answers i left says =
-    by-first-row (left .answer) _
+    by-turn (left .answer) _
     (ap (λ (o : SendLeft). o .answer .number) says ∙ ap (λ (t : Told). t .number) (send-told i) ∙ ap (λ (a : Answer). told a .number) (sym (lowest-end _))
     ∙ ladder-then (not (soundOver (i .conn) (length (i .store)))) (not (isHeaderLength (length (i .hdr)))) (not (isClock (i .clock)))
     (i .present && tooLong (pktOf i) (length (i .buf))) (ltb (sendPlan i .len) (sendPlan i .written)) (ltb (length (i .out)) (sendPlan i .written)) Done [] refl)
@@ -50,15 +50,15 @@ recv-told i =
     ap-when (λ (o : RecvLeft). o .answer) (isDone (refusalOf i)) (recvDone i) (recvKept i) ∙ sym (ap-when told (isDone (refusalOf i)) (saidBy i .answer) (refusalOf i))
 
 pub recv-answers : RecvAnswers
-unfolding recvRefusal recvDoor
+unfolding recvRefusal recvDoor when
 recv-answers i left says =
-    by-first-row (left .answer) _
+    by-turn (left .answer) _
     (ap (λ (o : RecvLeft). o .answer .number) says ∙ ap (λ (t : Told). t .number) (recv-told i)
     ∙ ladder-then (not (soundConn (i .conn))) (not (isHeaderLength (length (i .hdr)))) (not (isClock (i .clock))) (i .present && not (isPacketLength (length (i .buf))))
     (readsOf (i .conn) (i .present) && (ltb (askedOf (i .conn) (length (i .buf))) (readCounted (i .answer)) || ltb (length (i .read)) (readCounted (i .answer)))) false
     (saidBy i .answer)
-    (hasNothing (i .conn .«pending_rx») (i .conn .state) (eqb (creditOf (i .conn)) 0) (i .present) (i .answer)
-    ∷ lacksBuffer (i .conn .«pending_rx») (i .conn .state) (eqb (creditOf (i .conn)) 0) (i .present) ∷ [])
+    ((7, hasNothing (i .conn .«pending_rx») (i .conn .state) (eqb (creditOf (i .conn)) 0) (i .present) (i .answer))
+    ∷ (8, lacksBuffer (i .conn .«pending_rx») (i .conn .state) (eqb (creditOf (i .conn)) 0) (i .present)) ∷ [])
     (turn-number (i .conn .«pending_rx») (i .conn .state) (eqb (creditOf (i .conn)) 0) (i .present) (i .answer)))
 
 -- ---- an event
@@ -79,13 +79,13 @@ unfolding flushAnswer endsBy
 flush-late i e = rw (sound-over-ring (i .conn) (length (i .store)) e) (absorbed-late (flushOver (flushIn i)) (ltb (length (i .out)) (flushCount (flushIn i))) _ (i .answers .first))
 
 event-number : (sound due over room : Bool) (f : Answer) → (sound ≡ true → f ≡ lateOf over room)
-    → told (lowestOf (recordAnswer sound) (when due f Done)) .number ≡ firstRow (not sound ∷ false ∷ false ∷ false ∷ (due && over) ∷ (due && room) ∷ [])
+    → told (lowestOf (recordAnswer sound) (when due f Done)) .number ≡ firstInTurn ((1, not sound) ∷ (5, due && over) ∷ (6, due && room) ∷ [])
 unfolding lowestOf recordAnswer doorOf lateOf whenDone isDone when
 event-number false due over room f e = refl
 event-number true false over room f e = refl
 event-number true true over room f e = ap (λ (a : Answer). told a .number) (e refl) ∙ late-number over room
   where
-    late-number : (a m : Bool) → told (lateOf a m) .number ≡ firstRow (false ∷ false ∷ false ∷ false ∷ a ∷ m ∷ [])
+    late-number : (a m : Bool) → told (lateOf a m) .number ≡ firstInTurn ((5, a) ∷ (6, m) ∷ [])
     late-number true m = refl
     late-number false true = refl
     late-number false false = refl
@@ -97,7 +97,7 @@ notify-told i = answer-told (λ (o : NotifyLeft). o .answer) (notifyAnswer i) (n
 pub notify-answers : NotifyAnswers
 unfolding notifyAnswer notifyDoor
 notify-answers i left says =
-    by-first-row (left .answer) _
+    by-turn (left .answer) _
     (ap (λ (o : NotifyLeft). o .answer .number) says ∙ ap (λ (t : Told). t .number) (notify-told i)
     ∙ event-number (soundOver (i .conn) (length (i .store))) (due i) (flushOver (flushIn i)) (ltb (length (i .out)) (flushCount (flushIn i))) _ (flush-late i))
 
@@ -108,9 +108,9 @@ unfolding rawOf rawDone rawKept
 raw-told i = answer-told (λ (o : RawLeft). o .answer) (rawAnswer i) (rawDone i) (rawKept i) refl refl
 
 pub raw-answers : RawAnswers
-unfolding rawAnswer rawDoor
+unfolding rawAnswer rawDoor when
 raw-answers i left says =
-    by-first-row (left .answer) _
+    by-turn (left .answer) _
     (ap (λ (o : RawLeft). o .answer .number) says ∙ ap (λ (t : Told). t .number) (raw-told i)
     ∙ ladder-then (not (soundConn (i .conn))) false false (not (isPacketLength (length (i .buf)))) (ltb (length (i .buf)) (rawCount i)) (ltb (length (i .out)) (rawCount i))
-    (stoppedBy (i .answers .first)) (false ∷ false ∷ false ∷ stops (i .answers .first) ∷ []) (stop-number (i .answers .first)))
+    (stoppedBy (i .answers .first)) ((10, stops (i .answers .first)) ∷ []) (stop-number (i .answers .first)))

@@ -54,9 +54,9 @@ done-tail i =
     let c = i .conn in
     ⊎-elim
     (λ (g : sendPlan i .goes ≡ true).
-    ap (λ (a : Account). a .ring .tail) (rule-counts c (pktOf i) (sendPlan i) (sendKills i) (sendCarried i .ring) (i .clock) g (goes-is-rw i g))
+    ap (λ (a : Account). a .ring .tail) (rule-counts c (quiet (c .«tx_buf»)) (pktOf i) (sendPlan i) (sendKills i) (sendCarried i .ring) (i .clock) g (goes-is-rw i g))
     ∙ carried-tail _ (c .«tx_buf») (i .store) _)
-    (λ (g : sendPlan i .goes ≡ false). ap (λ (a : Account). a .ring .tail) (rule-keeps c (pktOf i) (sendPlan i) (sendKills i) (sendCarried i .ring) (i .clock) g))
+    (λ (g : sendPlan i .goes ≡ false). ap (λ (a : Account). a .ring .tail) (rule-keeps c (quiet (c .«tx_buf»)) (pktOf i) (sendPlan i) (sendKills i) (sendCarried i .ring) (i .clock) g))
     (true-or-false (sendPlan i .goes))
 
 -- a packet leaves the tail
@@ -132,7 +132,7 @@ unfolding account notifyOf notifyDone
 drained-ring i d u =
     ap (λ (o : NotifyLeft). o .conn .«tx_buf») (when-done (notifyAnswer i) (notifyDone i) (notifyKept i) d)
     ∙ ap (λ (c : VsockConnection). c .«tx_buf») (when-true _ _ _ u)
-    ∙ ap (λ (a : Account). a .ring) (drain-counts (i .conn) (i .readable) (flushed i .ring) (flushed i .count) (failed (i .answers .first)))
+    ∙ ap (λ (a : Account). a .ring) (drain-counts (i .conn) (i .readable) (flushed i .ring) (flushed i .count) (quiet (flushed i .ring)) (failed (i .answers .first)))
 
 falls : (i : NotifyIn) (k : ℕ) → Numbers (i .conn) → notifyAnswer i ≡ Done → due i ≡ true → i .answers .first ≡ Count (suc k) → 0 < heldBy (i .conn)
     → heldBy (notifyOf i .conn) < heldBy (i .conn)

@@ -92,19 +92,19 @@ by-response : (c : VsockConnection) → Next c (onResponse c)
 unfolding onResponse withState
 by-response c = choose c _ _ (isLocalInit (c .state)) (λ t. record { response = refl; state = opens t }) (same c)
 
-by-shutdown : (c : VsockConnection) (flags clock : ℕ) → Next c (onShutdown c flags clock)
+by-shutdown : (c : VsockConnection) (empty : Bool) (flags clock : ℕ) → Next c (onShutdown c empty flags clock)
 unfolding onShutdown withState
-by-shutdown c flags clock = record { response = refl; state = shuts (recvOff flags) (sendOff flags) }
+by-shutdown c empty flags clock = record { response = refl; state = shuts (recvOff flags) (sendOff flags) }
 
 by-request : (c : VsockConnection) → Next c (onCreditRequest c)
 unfolding onCreditRequest withState
 by-request c = record { response = refl; state = stays }
 
-by-rule : (c : VsockConnection) (pkt : VsockPacketHdr) (p : SendPlan) (breaks : Bool) (ring : TxBuf) (clock : ℕ) → Next c (ruleOf c pkt p breaks ring clock)
+by-rule : (c : VsockConnection) (empty : Bool) (pkt : VsockPacketHdr) (p : SendPlan) (breaks : Bool) (ring : TxBuf) (clock : ℕ) → Next c (ruleOf c empty pkt p breaks ring clock)
 unfolding ruleOf
-by-rule c pkt p breaks ring clock =
+by-rule c empty pkt p breaks ring clock =
     choose c _ _ (eqb (pkt .op) opResponse) (λ t. by-response c)
-    (choose c _ _ (eqb (pkt .op) opShutdown) (λ t. by-shutdown c (pkt .flags) clock)
+    (choose c _ _ (eqb (pkt .op) opShutdown) (λ t. by-shutdown c empty (pkt .flags) clock)
     (choose c _ _ (eqb (pkt .op) opRw) (λ t. by-data c p breaks ring) (choose c _ _ (eqb (pkt .op) opCreditRequest) (λ t. by-request c) (same c))))
 
 heard : (c d : VsockConnection) (pkt : VsockPacketHdr) → Next (heardOf c pkt) d → Next c d
@@ -115,7 +115,7 @@ by-packet : (i : SendIn) → Next (i .conn) (sendOf i .conn)
 unfolding sendOf sendDone sendKept whenDone
 by-packet i =
     when-holds (λ (o : SendLeft). Next (i .conn) (o .conn)) (isDone (sendAnswer i)) (sendDone i) (sendKept i)
-    (λ t. heard (i .conn) _ (pktOf i) (by-rule (heardOf (i .conn) (pktOf i)) (pktOf i) (sendPlan i) (sendKills i) (sendCarried i .ring) (i .clock)))
+    (λ t. heard (i .conn) _ (pktOf i) (by-rule (heardOf (i .conn) (pktOf i)) (quiet (i .conn .«tx_buf»)) (pktOf i) (sendPlan i) (sendKills i) (sendCarried i .ring) (i .clock)))
     (λ t. same (i .conn))
 
 -- ---- events and kills
@@ -124,21 +124,21 @@ seen : (c d : VsockConnection) (readable : Bool) → Next (seenOf c readable) d 
 unfolding seenOf withState
 seen c d readable n = record { response = n .response; state = n .state }
 
-settled : (c d : VsockConnection) → Next c d → Next c (settledOf d)
+settled : (c d : VsockConnection) (empty : Bool) → Next c d → Next c (settledOf d empty)
 unfolding settledOf updatedOf withState
-settled c d n =
-    choose c _ _ (bothOff (d .state) && quiet d) (λ t. record { response = n .response; state = n .state }) (record { response = n .response; state = n .state })
+settled c d empty n =
+    choose c _ _ (bothOff (d .state) && empty) (λ t. record { response = n .response; state = n .state }) (record { response = n .response; state = n .state })
 
-by-drain : (c : VsockConnection) (ring : TxBuf) (n : ℕ) (fails : Bool) → Next c (drainedOf c ring n fails)
+by-drain : (c : VsockConnection) (ring : TxBuf) (n : ℕ) (empty fails : Bool) → Next c (drainedOf c ring n empty fails)
 unfolding drainedOf
-by-drain c ring n fails = settled c _ (choose c _ _ fails (λ t. killed-moved c ring n) (after-move c ring n))
+by-drain c ring n empty fails = settled c _ empty (choose c _ _ fails (λ t. killed-moved c ring n) (after-move c ring n))
 
 by-event : (i : NotifyIn) → Next (i .conn) (notifyOf i .conn)
 unfolding notifyOf notifyDone notifyKept whenDone
 by-event i =
     when-holds (λ (o : NotifyLeft). Next (i .conn) (o .conn)) (isDone (notifyAnswer i)) (notifyDone i) (notifyKept i)
     (λ t.
-    choose (i .conn) _ _ (due i) (λ u. seen (i .conn) _ (i .readable) (by-drain (seenOf (i .conn) (i .readable)) (flushed i .ring) (flushed i .count) (failed (i .answers .first))))
+    choose (i .conn) _ _ (due i) (λ u. seen (i .conn) _ (i .readable) (by-drain (seenOf (i .conn) (i .readable)) (flushed i .ring) (flushed i .count) (quiet (flushed i .ring)) (failed (i .answers .first))))
     (seen (i .conn) _ (i .readable) (same _)))
     (λ t. same (i .conn))
 

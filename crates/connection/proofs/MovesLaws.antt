@@ -73,9 +73,9 @@ response-account : (c : VsockConnection) → account (onResponse c) ≡ account 
 unfolding onResponse
 response-account c = either (isLocalInit (c .state)) _ c _ (state-account c _ _ _) refl
 
-shutdown-account : (c : VsockConnection) (flags clock : ℕ) → account (onShutdown c flags clock) ≡ account c
+shutdown-account : (c : VsockConnection) (empty : Bool) (flags clock : ℕ) → account (onShutdown c empty flags clock) ≡ account c
 unfolding onShutdown
-shutdown-account c flags clock = state-account c _ _ _
+shutdown-account c empty flags clock = state-account c _ _ _
 
 request-account : (c : VsockConnection) → account (onCreditRequest c) ≡ account c
 unfolding onCreditRequest
@@ -88,20 +88,20 @@ data-account c p kills ring g =
     ∙ either kills _ _ _ (kill-account _ ∙ move-account c ring (p .written)) (update-account _ ∙ move-account c ring (p .written))
 
 -- a packet whose data goes counts it; any other leaves the account
-pub rule-counts : (c : VsockConnection) (pkt : VsockPacketHdr) (p : SendPlan) (kills : Bool) (ring : TxBuf) (clock : ℕ) → p .goes ≡ true → eqb (pkt .op) opRw ≡ true
-    → account (ruleOf (heardOf c pkt) pkt p kills ring clock) ≡ countedOn (account c) ring (p .written)
+pub rule-counts : (c : VsockConnection) (empty : Bool) (pkt : VsockPacketHdr) (p : SendPlan) (kills : Bool) (ring : TxBuf) (clock : ℕ) → p .goes ≡ true → eqb (pkt .op) opRw ≡ true
+    → account (ruleOf (heardOf c pkt) empty pkt p kills ring clock) ≡ countedOn (account c) ring (p .written)
 unfolding ruleOf when heardOf
-rule-counts c pkt p kills ring clock g o =
+rule-counts c empty pkt p kills ring clock g o =
     let e : pkt .op ≡ opRw = eqb-true _ _ o in
     rw e (data-account (heardOf c pkt) p kills ring g ∙ ap (λ (a : Account). countedOn a ring (p .written)) (hear-account c pkt))
 
-pub rule-keeps : (c : VsockConnection) (pkt : VsockPacketHdr) (p : SendPlan) (kills : Bool) (ring : TxBuf) (clock : ℕ) → p .goes ≡ false
-    → account (ruleOf (heardOf c pkt) pkt p kills ring clock) ≡ account c
+pub rule-keeps : (c : VsockConnection) (empty : Bool) (pkt : VsockPacketHdr) (p : SendPlan) (kills : Bool) (ring : TxBuf) (clock : ℕ) → p .goes ≡ false
+    → account (ruleOf (heardOf c pkt) empty pkt p kills ring clock) ≡ account c
 unfolding ruleOf onData
-rule-keeps c pkt p kills ring clock g =
+rule-keeps c empty pkt p kills ring clock g =
     let h = heardOf c pkt in
     either (eqb (pkt .op) opResponse) _ _ _ (response-account h ∙ hear-account c pkt)
-    (either (eqb (pkt .op) opShutdown) _ _ _ (shutdown-account h (pkt .flags) clock ∙ hear-account c pkt)
+    (either (eqb (pkt .op) opShutdown) _ _ _ (shutdown-account h empty (pkt .flags) clock ∙ hear-account c pkt)
     (either (eqb (pkt .op) opRw) _ _ _ (ap account (when-false _ _ _ g) ∙ hear-account c pkt)
     (either (eqb (pkt .op) opCreditRequest) _ _ _ (request-account h ∙ hear-account c pkt) (hear-account c pkt))))
 
@@ -109,15 +109,15 @@ see-account : (c : VsockConnection) (readable : Bool) → account (seenOf c read
 unfolding seenOf
 see-account c readable = state-account c _ _ _
 
-settle-account : (c : VsockConnection) → account (settledOf c) ≡ account c
+settle-account : (c : VsockConnection) (empty : Bool) → account (settledOf c empty) ≡ account c
 unfolding settledOf
-settle-account c = either (bothOff (c .state) && quiet c) _ _ _ (state-account c (c .state) (c .expiry) _) (update-account c)
+settle-account c empty = either (bothOff (c .state) && empty) _ _ _ (state-account c (c .state) (c .expiry) _) (update-account c)
 
-pub drain-counts : (c : VsockConnection) (readable : Bool) (ring : TxBuf) (n : ℕ) (fails : Bool) → account (drainedOf (seenOf c readable) ring n fails) ≡ countedOn (account c) ring n
+pub drain-counts : (c : VsockConnection) (readable : Bool) (ring : TxBuf) (n : ℕ) (empty fails : Bool) → account (drainedOf (seenOf c readable) ring n empty fails) ≡ countedOn (account c) ring n
 unfolding drainedOf
-drain-counts c readable ring n fails =
+drain-counts c readable ring n empty fails =
     let m = move-account (seenOf c readable) ring n ∙ ap (λ (a : Account). countedOn a ring n) (see-account c readable) in
-    settle-account _ ∙ either fails _ _ _ (kill-account _ ∙ m) m
+    settle-account _ empty ∙ either fails _ _ _ (kill-account _ ∙ m) m
 
 received-account : (c : VsockConnection) (row : Row) (clock : ℕ) → account (receivedOf c row clock) ≡ account c
 unfolding account receivedOf spokenOf
@@ -129,7 +129,7 @@ received-account c row clock = refl
 swaps : (t h : List ℕ) → (t ≡ []) ⊎ (h ≡ []) → t ++ h ≡ h ++ t
 swaps t h = ⊎-elim (λ (e : t ≡ []). rw e (sym (append-nil h))) (λ (e : h ≡ []). rw e (append-nil t))
 
-nothing-held : (c : VsockConnection) (store : List ℕ) → quiet c ≡ true → held (c .«tx_buf») store ≡ []
+nothing-held : (c : VsockConnection) (store : List ℕ) → quiet (c .«tx_buf») ≡ true → held (c .«tx_buf») store ≡ []
 unfolding quiet held heldFrom
 nothing-held c store q = ap (λ (n : ℕ). heldFrom store (c .«tx_buf» .size) (c .«tx_buf» .tail) n) (eqb-true (usedOf (c .«tx_buf»)) 0 q)
 
@@ -143,9 +143,9 @@ none-or-empty : (i : SendIn) → (take (sendPlan i .written) (payload i) ≡ [])
 unfolding planOf
 none-or-empty i =
     ⊎-elim
-    (λ (q : quiet (i .conn) ≡ true). inr (nothing-held (i .conn) (i .store) q))
-    (λ (q : quiet (i .conn) ≡ false). inl (ap (λ (n : ℕ). take n (payload i)) (unwritten (sendPlan i .goes) (quiet (i .conn)) _ q)))
-    (true-or-false (quiet (i .conn)))
+    (λ (q : quiet (i .conn .«tx_buf») ≡ true). inr (nothing-held (i .conn) (i .store) q))
+    (λ (q : quiet (i .conn .«tx_buf») ≡ false). inl (ap (λ (n : ℕ). take n (payload i)) (unwritten (sendPlan i .goes) (quiet (i .conn .«tx_buf»)) _ q)))
+    (true-or-false (quiet (i .conn .«tx_buf»)))
 
 -- what the plan says where no data goes
 no-data : (i : SendIn) → sendPlan i .goes ≡ false → (sendPlan i .len ≡ 0) × (sendPlan i .written ≡ 0)
@@ -171,7 +171,7 @@ record Gone (i : SendIn) : Type 0 where
 gone : (i : SendIn) → Wide (i .conn .«tx_buf») → Passed i → sendPlan i .goes ≡ true → Gone i
 unfolding sendDone carried pushDone
 gone i w s g = record {
-  ring = rule-counts (i .conn) (pktOf i) (sendPlan i) (sendKills i) (sendCarried i .ring) (i .clock) g (goes-is-rw i g);
+  ring = rule-counts (i .conn) (quiet (i .conn .«tx_buf»)) (pktOf i) (sendPlan i) (sendKills i) (sendCarried i .ring) (i .clock) g (goes-is-rw i g);
   bytes =
       ⊎-elim
       (λ (k : sendKills i ≡ true).
@@ -262,7 +262,7 @@ no-data-moves i n d g =
     let a : accepted i ≡ [] = when-done _ _ _ d ∙ same (sendKills i) _ _ _ t p in
     let f : take (sendTaken i) (sendDone i .out) ≡ [] = ap (λ (x : ℕ). take x (sendDone i .out)) (when-done _ _ _ d ∙ z .1) in
     let c : sendCarried i .store ≡ i .store = ap (λ (o : PushLeft). o .store) (when-false _ _ _ (goes-not (sendPlan i .goes) (sendKills i) g)) in
-    let s = stays (i .conn) (sendDone i .conn) (i .store) n (rule-keeps (i .conn) (pktOf i) (sendPlan i) (sendKills i) (sendCarried i .ring) (i .clock) g) in
+    let s = stays (i .conn) (sendDone i .conn) (i .store) n (rule-keeps (i .conn) (quiet (i .conn .«tx_buf»)) (pktOf i) (sendPlan i) (sendKills i) (sendCarried i .ring) (i .clock) g) in
     record {
       bytes =
           ap (λ (x : List ℕ). x ++ held (sendDone i .conn .«tx_buf») (sendDone i .store)) f
@@ -313,7 +313,7 @@ flush-moves i n d u =
     let k : flushed i .count ≤ usedOf (i .conn .«tx_buf») = count-small (flushIn i) (flushed i) refl in
     let m : length (take (flushed i .count) h) ≡ flushed i .count = length-take-le _ h (omega arith) in
     let c : account (notifyDone i .conn) ≡ countedOn (account (i .conn)) (flushed i .ring) (flushed i .count) =
-    ap account (when-true _ _ _ u) ∙ drain-counts (i .conn) (i .readable) (flushed i .ring) (flushed i .count) _ in
+    ap account (when-true _ _ _ u) ∙ drain-counts (i .conn) (i .readable) (flushed i .ring) (flushed i .count) _ _ in
     let t : notifyTaken i ≡ flushed i .count = when-done _ _ _ d ∙ when-true _ _ _ u in
     let f : take (notifyTaken i) (notifyDone i .out) ≡ take (flushed i .count) h =
     ap (λ (x : ℕ). take x (notifyDone i .out)) t

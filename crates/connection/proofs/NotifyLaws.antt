@@ -31,17 +31,17 @@ use Rattle.connection.proofs.RecordLaws.{sound-over-says}
 
 -- ---- after a flush
 
-pub settled-reset : (c r : VsockConnection) (p : PendingRxSet) (off empty : Bool) → off ≡ bothOff (c .state) → empty ≡ quiet c → off && empty ≡ true
-    → r ≡ withState c (c .state) (c .expiry) p → p ≡ marked (c .«pending_rx») true false false → r ≡ settledOf c
+pub settled-reset : (c r : VsockConnection) (p : PendingRxSet) (off empty : Bool) → off ≡ bothOff (c .state) → off && empty ≡ true
+    → r ≡ withState c (c .state) (c .expiry) p → p ≡ marked (c .«pending_rx») true false false → r ≡ settledOf c empty
 unfolding settledOf
-settled-reset c r p off empty e f t g h =
-    let u : bothOff (c .state) && quiet c ≡ true = rw (e, f) at t in
+settled-reset c r p off empty e t g h =
+    let u : bothOff (c .state) && empty ≡ true = rw e at t in
     g ∙ ap (withState c (c .state) (c .expiry)) h ∙ sym (when-true _ _ _ u)
 
-pub settled-updated : (c r : VsockConnection) (off empty : Bool) → off ≡ bothOff (c .state) → empty ≡ quiet c → off && empty ≡ false → r ≡ updatedOf c → r ≡ settledOf c
+pub settled-updated : (c r : VsockConnection) (off empty : Bool) → off ≡ bothOff (c .state) → off && empty ≡ false → r ≡ updatedOf c → r ≡ settledOf c empty
 unfolding settledOf
-settled-updated c r off empty e f t g =
-    let u : bothOff (c .state) && quiet c ≡ false = rw (e, f) at t in
+settled-updated c r off empty e t g =
+    let u : bothOff (c .state) && empty ≡ false = rw e at t in
     g ∙ sym (when-false _ _ _ u)
 
 -- ---- the call's answer
@@ -119,9 +119,9 @@ notify-kept i a b left f k =
     ap isDone (sym (f .absorbs ∙ past-door i a (f .passed) (f .done) ∙ when-true _ _ _ (f .is-due))) ∙ not-done b k in
     ap (λ (x : List ℕ). record { answer = told b; conn = i .conn; out = x }) (flush-kept (flushIn i) left (f .says) (absorbed-done _ n)) ∙ kept i b (f .absorbs) k
 
-pub notify-done : (i : NotifyIn) (a b : Answer) (left : FlushLeft) (seen c : VsockConnection) (fails : Bool) → Flushing i a b left → b ≡ Done
-    → seen ≡ seenOf (i .conn) (i .readable) → fails ≡ failed (i .answers .first) → c ≡ drainedOf seen (left .ring) (left .count) fails
+pub notify-done : (i : NotifyIn) (a b : Answer) (left : FlushLeft) (seen c : VsockConnection) (empty fails : Bool) → Flushing i a b left → b ≡ Done
+    → seen ≡ seenOf (i .conn) (i .readable) → empty ≡ quiet (left .ring) → fails ≡ failed (i .answers .first) → c ≡ drainedOf seen (left .ring) (left .count) empty fails
     → _≡_ {A = NotifyLeft} (record { answer = told b; conn = c; out = left .out }) (notifyOf i)
 unfolding notifyOf notifyDone when
-notify-done i a b left seen c fails f e g h j =
-    rw (e, j, g, h, f .says, when-done (notifyAnswer i) (notifyDone i) (notifyKept i) (sym (f .absorbs) ∙ e), f .is-due)
+notify-done i a b left seen c empty fails f e g q h j =
+    rw (e, j, g, q, h, f .says, when-done (notifyAnswer i) (notifyDone i) (notifyKept i) (sym (f .absorbs) ∙ e), f .is-due)

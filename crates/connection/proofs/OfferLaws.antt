@@ -68,7 +68,7 @@ module _ (c : VsockConnection) (storage : ℕ) (hdr : List ℕ) (present : Bool)
       rw n
 
   pub writes : (buf : ℕ) (a : Answer) (s passes goes empty : Bool) (pkt : VsockPacketHdr) → a ≡ sendDoorOf s true pkt present buf clock → s ≡ soundOver c storage
-      → (isHeaderLength (length hdr) ≡ true) × (pkt ≡ decoded hdr) → passes ≡ isDone a → goes ≡ goesOf c (pkt .op) present → empty ≡ quiet c
+      → (isHeaderLength (length hdr) ≡ true) × (pkt ≡ decoded hdr) → passes ≡ isDone a → goes ≡ goesOf c (pkt .op) present → empty ≡ quiet (c .«tx_buf»)
       → passes && (goes && empty) ≡ sendWrites c storage hdr present buf clock
   unfolding sendWrites
   writes buf a s passes goes empty pkt e f h i j k = rw (i, j, k, door-headed buf a s pkt e f h, h .1)

@@ -70,15 +70,15 @@ out-is out bytes x written p q e =
 
 -- of a write that counts
 pub plan-counted : (c : VsockConnection) (pkt : VsockPacketHdr) (present : Bool) (a : StreamAnswer) (g q : Bool) (m n w : ℕ) → a ≡ Count n → g ≡ goesOf c (pkt .op) present
-    → q ≡ quiet c → m ≡ when g (pkt .len) 0 → w ≡ when (g && q) n 0 → _≡_ {A = SendPlan} (record { goes = g; len = m; written = w; broken = false }) (planOf c pkt present a)
+    → q ≡ quiet (c .«tx_buf») → m ≡ when g (pkt .len) 0 → w ≡ when (g && q) n 0 → _≡_ {A = SendPlan} (record { goes = g; len = m; written = w; broken = false }) (planOf c pkt present a)
 unfolding planOf
-plan-counted c pkt present a g q m n w e1 e2 e3 e4 e5 = rw (e1, e5, e4, e3, e2, and-false (goesOf c (pkt .op) present && quiet c))
+plan-counted c pkt present a g q m n w e1 e2 e3 e4 e5 = rw (e1, e5, e4, e3, e2, and-false (goesOf c (pkt .op) present && quiet (c .«tx_buf»)))
 
 -- of one that blocks or fails
 pub plan-stopped : (c : VsockConnection) (pkt : VsockPacketHdr) (present : Bool) (a : StreamAnswer) (g q f : Bool) (m : ℕ) → NotCount a → g ≡ goesOf c (pkt .op) present
-    → q ≡ quiet c → m ≡ when g (pkt .len) 0 → f ≡ failed a → _≡_ {A = SendPlan} (record { goes = g; len = m; written = 0; broken = g && q && f }) (planOf c pkt present a)
+    → q ≡ quiet (c .«tx_buf») → m ≡ when g (pkt .len) 0 → f ≡ failed a → _≡_ {A = SendPlan} (record { goes = g; len = m; written = 0; broken = g && q && f }) (planOf c pkt present a)
 unfolding planOf
-plan-stopped c pkt present a g q f m k e1 e2 e3 e4 = rw (takes-none a k, when-same {A = ℕ} 0 (goesOf c (pkt .op) present && quiet c), e4, e3, e2, e1)
+plan-stopped c pkt present a g q f m k e1 e2 e3 e4 = rw (takes-none a k, when-same {A = ℕ} 0 (goesOf c (pkt .op) present && quiet (c .«tx_buf»)), e4, e3, e2, e1)
 
 -- ---- what a refusal that passed says
 
@@ -194,17 +194,17 @@ found i pkt p a d l s h q e door late r =
       refusal = r ∙ rw (door, late, e, h .1, x, h .0);
     }
 
-pub send-left : (i : SendIn) (pkt : VsockPacketHdr) (p : SendPlan) (a : Answer) (k : Bool) (ring : TxBuf) (heard c : VsockConnection) (x y : List ℕ) → Found i pkt p a → a ≡ Done
+pub send-left : (i : SendIn) (pkt : VsockPacketHdr) (p : SendPlan) (a : Answer) (k empty : Bool) (ring : TxBuf) (heard c : VsockConnection) (x y : List ℕ) → Found i pkt p a → a ≡ Done
     → k ≡ killsOf (i .conn) p
     → _≡_ {A = PushLeft} (record { answer = told Done; ring = ring; store = x }) (carried (p .goes && not k) (i .conn .«tx_buf») (i .store) (drop (p .written) (take (p .len) (i .buf))))
     → y ≡ take (p .written) (take (p .len) (i .buf)) ++ drop (p .written) (i .out)
-    → heard ≡ heardOf (i .conn) pkt → c ≡ ruleOf heard pkt p k ring (i .clock)
+    → empty ≡ quiet (i .conn .«tx_buf») → heard ≡ heardOf (i .conn) pkt → c ≡ ruleOf heard empty pkt p k ring (i .clock)
     → _≡_ {A = SendLeft} (record { answer = told a; conn = c; store = x; out = y }) (sendOf i)
 unfolding sendOf sendDone sendAnswer
-send-left i pkt p a k ring heard c x y f d e g h j m =
+send-left i pkt p a k empty ring heard c x y f d e g h u j m =
     let z : k ≡ sendKills i = e ∙ ap (killsOf (i .conn)) (f .plan) in
     let q : _≡_ {A = PushLeft} (record { answer = told Done; ring = ring; store = x }) (sendCarried i) = rw (f .plan, z) at g in
     let r : ring ≡ sendCarried i .ring = ap (λ (o : PushLeft). o .ring) q in
     let s : x ≡ sendCarried i .store = ap (λ (o : PushLeft). o .store) q in
-    rw (d, m, h, s, r, j, z, f .plan, f .header)
+    rw (d, m, h, s, r, j, u, z, f .plan, f .header)
     (sym (when-done (sendAnswer i) (sendDone i) (sendKept i) (sym (f .refusal) ∙ d)))

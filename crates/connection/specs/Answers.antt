@@ -1,11 +1,12 @@
--- Which number a call answers (01, "What comes back"): n exactly when row n's test holds and no lower row's. Rows in order from 1; of 10 the call's
--- own statement tells which kind. Assumes nothing.
-use mathlib.Core.Bool.{Bool, false, not, _&&_, _||_}
+-- Which number a call answers (01, "What comes back"): n exactly when row n's test holds and no lower row's. Of 10 the call's own
+-- statement tells which kind. Assumes nothing.
+use Prim.Native.Nat.{ℕ}
+use mathlib.Core.Bool.{Bool, not, _&&_, _||_}
 use mathlib.Core.List.{List, [], _∷_}
 use lib.ListN.{length}
 use lib.Dec.{ltb}
 use Rattle.defs.specs.Limits.{isHeaderLength, isClock, isPacketLength}
-use Rattle.defs.specs.Promises.{AnswersBy}
+use Rattle.defs.specs.Promises.{AnswersInTurn}
 use Rattle.defs.specs.Stream.{readCounted, stops}
 use Rattle.txbuf.specs.Flush.{flushCount, flushOver}
 use Rattle.csm.specs.Turn.{hasNothing, lacksBuffer}
@@ -16,63 +17,54 @@ use Rattle.connection.specs.Notify.{NotifyIn, NotifyLeft, NotifySays, du
 use Rattle.connection.specs.Raw.{RawIn, RawLeft, RawSays, rawCount}
 
 -- `send_pkt`: 1 to 4; 5 the write counts more than it was offered; 6 no room for what it took
-abbrev pub sendTests : SendIn → List Bool
+abbrev pub sendTests : SendIn → List (ℕ × Bool)
 sendTests i =
-    not (soundOver (i .conn) (length (i .store)))
-    ∷ not (isHeaderLength (length (i .hdr)))
-    ∷ not (isClock (i .clock))
-    ∷ (i .present && tooLong (pktOf i) (length (i .buf)))
-    ∷ ltb (sendPlan i .len) (sendPlan i .written)
-    ∷ ltb (length (i .out)) (sendPlan i .written)
+    (1, not (soundOver (i .conn) (length (i .store))))
+    ∷ (2, not (isHeaderLength (length (i .hdr))))
+    ∷ (3, not (isClock (i .clock)))
+    ∷ (4, i .present && tooLong (pktOf i) (length (i .buf)))
+    ∷ (5, ltb (sendPlan i .len) (sendPlan i .written))
+    ∷ (6, ltb (length (i .out)) (sendPlan i .written))
     ∷ []
 
 abbrev pub SendAnswers : Type 0
-SendAnswers = (i : SendIn) (left : SendLeft) → SendSays i left → AnswersBy (left .answer) (sendTests i)
+SendAnswers = (i : SendIn) (left : SendLeft) → SendSays i left → AnswersInTurn (left .answer) (sendTests i)
 
 -- `recv_pkt`: 1 to 4; 5 the read counts more than was asked or supplied; 7 nothing to say; 8 data due, credit not 0, no buffer
-abbrev pub recvTests : RecvIn → List Bool
+abbrev pub recvTests : RecvIn → List (ℕ × Bool)
 recvTests i =
-    not (soundConn (i .conn))
-    ∷ not (isHeaderLength (length (i .hdr)))
-    ∷ not (isClock (i .clock))
-    ∷ (i .present && not (isPacketLength (length (i .buf))))
-    ∷ (readsOf (i .conn) (i .present) && (ltb (askedOf (i .conn) (length (i .buf))) (readCounted (i .answer)) || ltb (length (i .read)) (readCounted (i .answer))))
-    ∷ false
-    ∷ hasNothing (i .conn .«pending_rx») (i .conn .state) (noCredit (i .conn)) (i .present) (i .answer)
-    ∷ lacksBuffer (i .conn .«pending_rx») (i .conn .state) (noCredit (i .conn)) (i .present)
+    (1, not (soundConn (i .conn)))
+    ∷ (2, not (isHeaderLength (length (i .hdr))))
+    ∷ (3, not (isClock (i .clock)))
+    ∷ (4, i .present && not (isPacketLength (length (i .buf))))
+    ∷ (5, readsOf (i .conn) (i .present) && (ltb (askedOf (i .conn) (length (i .buf))) (readCounted (i .answer)) || ltb (length (i .read)) (readCounted (i .answer))))
+    ∷ (7, hasNothing (i .conn .«pending_rx») (i .conn .state) (noCredit (i .conn)) (i .present) (i .answer))
+    ∷ (8, lacksBuffer (i .conn .«pending_rx») (i .conn .state) (noCredit (i .conn)) (i .present))
     ∷ []
 
 abbrev pub RecvAnswers : Type 0
-RecvAnswers = (i : RecvIn) (left : RecvLeft) → RecvSays i left → AnswersBy (left .answer) (recvTests i)
+RecvAnswers = (i : RecvIn) (left : RecvLeft) → RecvSays i left → AnswersInTurn (left .answer) (recvTests i)
 
 -- `notify`: 1; where a flush is due, 5 an answer that is used counts too much and 6 no room for the bytes taken; never 10
-abbrev pub notifyTests : NotifyIn → List Bool
+abbrev pub notifyTests : NotifyIn → List (ℕ × Bool)
 notifyTests i =
-    not (soundOver (i .conn) (length (i .store)))
-    ∷ false
-    ∷ false
-    ∷ false
-    ∷ (due i && flushOver (flushIn i))
-    ∷ (due i && ltb (length (i .out)) (flushCount (flushIn i)))
+    (1, not (soundOver (i .conn) (length (i .store))))
+    ∷ (5, due i && flushOver (flushIn i))
+    ∷ (6, due i && ltb (length (i .out)) (flushCount (flushIn i)))
     ∷ []
 
 abbrev pub NotifyAnswers : Type 0
-NotifyAnswers = (i : NotifyIn) (left : NotifyLeft) → NotifySays i left → AnswersBy (left .answer) (notifyTests i)
+NotifyAnswers = (i : NotifyIn) (left : NotifyLeft) → NotifySays i left → AnswersInTurn (left .answer) (notifyTests i)
 
 -- `send_bytes_raw`: 1, 4, 5, 6, and 10 where its write blocks or fails
-abbrev pub rawTests : RawIn → List Bool
+abbrev pub rawTests : RawIn → List (ℕ × Bool)
 rawTests i =
-    not (soundConn (i .conn))
-    ∷ false
-    ∷ false
-    ∷ not (isPacketLength (length (i .buf)))
-    ∷ ltb (length (i .buf)) (rawCount i)
-    ∷ ltb (length (i .out)) (rawCount i)
-    ∷ false
-    ∷ false
-    ∷ false
-    ∷ stops (i .answers .first)
+    (1, not (soundConn (i .conn)))
+    ∷ (4, not (isPacketLength (length (i .buf))))
+    ∷ (5, ltb (length (i .buf)) (rawCount i))
+    ∷ (6, ltb (length (i .out)) (rawCount i))
+    ∷ (10, stops (i .answers .first))
     ∷ []
 
 abbrev pub RawAnswers : Type 0
-RawAnswers = (i : RawIn) (left : RawLeft) → RawSays i left → AnswersBy (left .answer) (rawTests i)
+RawAnswers = (i : RawIn) (left : RawLeft) → RawSays i left → AnswersInTurn (left .answer) (rawTests i)

@@ -83,15 +83,15 @@ pub record EvSetLeft : Type 0 where
   pub writable : Bool
 
 -- out iff the ring isn't empty; in unless the state forbids data to the guest, or its credit is 0
-unfoldable pub evSetOf : VsockConnection → EvSetLeft
-evSetOf c = record {
+unfoldable pub evSetOf : VsockConnection → Bool → EvSetLeft
+evSetOf c empty = record {
   answer = told (lookAnswer c);
   readable = whenDone (lookAnswer c) (polls (c .state) && not (noCredit c)) false;
-  writable = whenDone (lookAnswer c) (not (quiet c)) false;
+  writable = whenDone (lookAnswer c) (not empty) false;
 }
 
 abbrev pub EvSetSays : VsockConnection → EvSetLeft → Type 0
-EvSetSays c left = left ≡ evSetOf c
+EvSetSays c left = left ≡ evSetOf c (quiet (c .«tx_buf»))
 
 -- `kill`
 unfoldable pub killOf : VsockConnection → ConnLeft

@@ -29,17 +29,17 @@ unfoldable pub absorbed : Answer → Answer
 absorbed a = when (eqb (told a .number) 10) Done a
 
 -- then Rst if PeerClosed(true, true) and empty, else credit update by the threshold rule
-unfoldable pub settledOf : VsockConnection → VsockConnection
-settledOf c =
-    when (bothOff (c .state) && quiet c) (withState c (c .state) (c .expiry) (marked (c .«pending_rx») true false false)) (updatedOf c)
+unfoldable pub settledOf : VsockConnection → Bool → VsockConnection
+settledOf c empty =
+    when (bothOff (c .state) && empty) (withState c (c .state) (c .expiry) (marked (c .«pending_rx») true false false)) (updatedOf c)
 
 -- a first-write failure kills, a would-block doesn't; add the count
-unfoldable pub drainedOf : VsockConnection → TxBuf → ℕ → Bool → VsockConnection
-drainedOf c ring taken fails = settledOf (when fails (killedOf (movedOf c ring taken)) (movedOf c ring taken))
+unfoldable pub drainedOf : VsockConnection → TxBuf → ℕ → Bool → Bool → VsockConnection
+drainedOf c ring taken empty fails = settledOf (when fails (killedOf (movedOf c ring taken)) (movedOf c ring taken)) empty
 
 -- a flush is due: an out-event, and the ring isn't empty
 abbrev pub flushDue : VsockConnection → Bool → Bool
-flushDue c writable = writable && not (quiet c)
+flushDue c writable = writable && not (quiet (c .«tx_buf»))
 
 -- ---- the call
 
@@ -79,7 +79,7 @@ notifyAnswer i = lowestOf (notifyDoor (i .conn) (length (i .store))) (when (due 
 unfoldable pub notifyDone : NotifyIn → NotifyLeft
 notifyDone i = record {
   answer = told Done;
-  conn = when (due i) (drainedOf (seenOf (i .conn) (i .readable)) (flushed i .ring) (flushed i .count) (failed (i .answers .first))) (seenOf (i .conn) (i .readable));
+  conn = when (due i) (drainedOf (seenOf (i .conn) (i .readable)) (flushed i .ring) (flushed i .count) (quiet (flushed i .ring)) (failed (i .answers .first))) (seenOf (i .conn) (i .readable));
   out = when (due i) (flushed i .out) (i .out);
 }
 

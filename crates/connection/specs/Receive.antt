@@ -25,7 +25,7 @@ use Rattle.csm.specs.declared.timer.Timer.{Timer}
 use Rattle.csm.specs.declared.state.ConnState.{ConnState}
 use Rattle.csm.specs.declared.turn.RxStep.{RxStep}
 use Rattle.csm.specs.declared.row.Row.{Row}
-use Rattle.connection.specs.Record.{soundConn, creditOf, noCredit}
+use Rattle.connection.specs.Record.{soundConn, creditOf, noCredit, peerOf, onwardOf, regrouped}
 use Rattle.connection.specs.declared.record.VsockConnection.{VsockConnection}
 
 -- what is said at this turn
@@ -36,22 +36,10 @@ nextStep c present a = turnStep (c .«pending_rx») (c .state) (noCredit c) pres
 
 -- sent rises by the count (wrapping), last-told by the row
 unfoldable pub spokenOf : VsockConnection → ℕ → Bool → ConnState → PendingRxSet → Timer → VsockConnection
-spokenOf c count tells state pending expiry = record {
-  settings = c .settings;
-  state = state;
-  «local_cid» = c .«local_cid»;
-  «peer_cid» = c .«peer_cid»;
-  «local_port» = c .«local_port»;
-  «peer_port» = c .«peer_port»;
-  «tx_buf» = c .«tx_buf»;
-  «fwd_cnt» = c .«fwd_cnt»;
-  «peer_buf_alloc» = c .«peer_buf_alloc»;
-  «peer_fwd_cnt» = c .«peer_fwd_cnt»;
-  «rx_cnt» = wadd (c .«rx_cnt») count;
-  «last_fwd_cnt_to_peer» = when tells (c .«fwd_cnt») (c .«last_fwd_cnt_to_peer»);
-  «pending_rx» = pending;
-  expiry = expiry;
-}
+spokenOf c count tells state pending expiry =
+    regrouped c (peerOf c) (onwardOf c)
+    (record { count = wadd (c .«rx_cnt») count; lastTold = when tells (c .«fwd_cnt») (c .«last_fwd_cnt_to_peer») })
+    (record { state = state; expiry = expiry; pending = pending })
 
 -- the record after a row: what it says of state and timer, and the indications that are left
 unfoldable pub receivedOf : VsockConnection → Row → ℕ → VsockConnection

@@ -4,7 +4,8 @@ use mathlib.Core.Bool.{Bool, true, false, _&&_}
 use lib.Dec.{eqb}
 use Rattle.defs.specs.Limits.{isThreshold, isTimeout}
 use Rattle.defs.specs.Credit.{peerAvailCredit}
-use Rattle.txbuf.specs.Record.{usedOf, soundRecord, soundOf}
+use Rattle.txbuf.specs.Record.{isEmpty, soundRecord, soundOf}
+use Rattle.txbuf.specs.declared.record.TxBuf.{TxBuf}
 use Rattle.csm.specs.Pending.{marked}
 use Rattle.csm.specs.declared.pending.PendingRxSet.{PendingRxSet}
 use Rattle.csm.specs.declared.timer.Timer.{Timer}
@@ -26,8 +27,8 @@ unfoldable pub soundOver : VsockConnection → ℕ → Bool
 soundOver c storage = soundOf (c .«tx_buf») storage && okSettings (c .settings) (c .«tx_buf» .size)
 
 -- THE RING COUNTS AS EMPTY
-unfoldable pub quiet : VsockConnection → Bool
-quiet c = eqb (usedOf (c .«tx_buf»)) 0
+unfoldable pub quiet : TxBuf → Bool
+quiet ring = isEmpty ring
 
 -- the guest's credit
 unfoldable pub creditOf : VsockConnection → ℕ
@@ -37,24 +38,63 @@ creditOf c = peerAvailCredit (c .«peer_buf_alloc») (c .«rx_cnt») (c .«peer_
 abbrev pub noCredit : VsockConnection → Bool
 noCredit c = eqb (creditOf c) 0
 
--- the record with another state, timer and set of indications
-unfoldable pub withState : VsockConnection → ConnState → Timer → PendingRxSet → VsockConnection
-withState c state expiry pending = record {
+-- ---- what moves: settings and addresses never do, the other fields in four groups
+
+-- the guest's space as it last said it
+pub record Peer : Type 0 where
+  pub alloc : ℕ
+  pub fwd : ℕ
+
+-- what the guest sent: the ring, and how much of it the stream has taken
+pub record Onward : Type 0 where
+  pub ring : TxBuf
+  pub count : ℕ
+
+-- what was sent to the guest: how much, and our count as it last heard it
+pub record Sent : Type 0 where
+  pub count : ℕ
+  pub lastTold : ℕ
+
+-- where the connection stands
+pub record Phase : Type 0 where
+  pub state : ConnState
+  pub expiry : Timer
+  pub pending : PendingRxSet
+
+abbrev pub peerOf : VsockConnection → Peer
+peerOf c = record { alloc = c .«peer_buf_alloc»; fwd = c .«peer_fwd_cnt» }
+
+abbrev pub onwardOf : VsockConnection → Onward
+onwardOf c = record { ring = c .«tx_buf»; count = c .«fwd_cnt» }
+
+abbrev pub sentOf : VsockConnection → Sent
+sentOf c = record { count = c .«rx_cnt»; lastTold = c .«last_fwd_cnt_to_peer» }
+
+abbrev pub phaseOf : VsockConnection → Phase
+phaseOf c = record { state = c .state; expiry = c .expiry; pending = c .«pending_rx» }
+
+-- the record with these groups
+abbrev pub regrouped : VsockConnection → Peer → Onward → Sent → Phase → VsockConnection
+regrouped c peer onward sent phase = record {
   settings = c .settings;
-  state = state;
+  state = phase .state;
   «local_cid» = c .«local_cid»;
   «peer_cid» = c .«peer_cid»;
   «local_port» = c .«local_port»;
   «peer_port» = c .«peer_port»;
-  «tx_buf» = c .«tx_buf»;
-  «fwd_cnt» = c .«fwd_cnt»;
-  «peer_buf_alloc» = c .«peer_buf_alloc»;
-  «peer_fwd_cnt» = c .«peer_fwd_cnt»;
-  «rx_cnt» = c .«rx_cnt»;
-  «last_fwd_cnt_to_peer» = c .«last_fwd_cnt_to_peer»;
-  «pending_rx» = pending;
-  expiry = expiry;
+  «tx_buf» = onward .ring;
+  «fwd_cnt» = onward .count;
+  «peer_buf_alloc» = peer .alloc;
+  «peer_fwd_cnt» = peer .fwd;
+  «rx_cnt» = sent .count;
+  «last_fwd_cnt_to_peer» = sent .lastTold;
+  «pending_rx» = phase .pending;
+  expiry = phase .expiry;
 }
+
+-- another state, timer and set of indications
+unfoldable pub withState : VsockConnection → ConnState → Timer → PendingRxSet → VsockConnection
+withState c state expiry pending = regrouped c (peerOf c) (onwardOf c) (sentOf c) (record { state = state; expiry = expiry; pending = pending })
 
 -- KILLED: the state, and a reset pending; the other indications stay, as in the Rust
 unfoldable pub killedOf : VsockConnection → VsockConnection

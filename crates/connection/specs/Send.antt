@@ -28,7 +28,7 @@ use Rattle.csm.specs.Timer.{later}
 use Rattle.csm.specs.declared.timer.Timer.the-variants.{Unset}
 use Rattle.csm.specs.declared.state.ConnState.{ConnState}
 use Rattle.csm.specs.declared.state.ConnState.the-variants.{Established}
-use Rattle.connection.specs.Record.{soundOver, quiet, withState, killedOf}
+use Rattle.connection.specs.Record.{soundOver, quiet, peerOf, onwardOf, sentOf, phaseOf, regrouped, withState, killedOf}
 use Rattle.connection.specs.declared.record.VsockConnection.{VsockConnection}
 use Rattle.connection.specs.declared.send.SendPlan.{SendPlan}
 
@@ -36,22 +36,7 @@ use Rattle.connection.specs.declared.send.SendPlan.{SendPlan}
 
 -- peer credit is always stored first
 unfoldable pub heardOf : VsockConnection → VsockPacketHdr → VsockConnection
-heardOf c pkt = record {
-  settings = c .settings;
-  state = c .state;
-  «local_cid» = c .«local_cid»;
-  «peer_cid» = c .«peer_cid»;
-  «local_port» = c .«local_port»;
-  «peer_port» = c .«peer_port»;
-  «tx_buf» = c .«tx_buf»;
-  «fwd_cnt» = c .«fwd_cnt»;
-  «peer_buf_alloc» = pkt .«buf_alloc»;
-  «peer_fwd_cnt» = pkt .«fwd_cnt»;
-  «rx_cnt» = c .«rx_cnt»;
-  «last_fwd_cnt_to_peer» = c .«last_fwd_cnt_to_peer»;
-  «pending_rx» = c .«pending_rx»;
-  expiry = c .expiry;
-}
+heardOf c pkt = regrouped c (record { alloc = pkt .«buf_alloc»; fwd = pkt .«fwd_cnt» }) (onwardOf c) (sentOf c) (phaseOf c)
 
 -- RESPONSE in LocalInit: Established, timer cleared
 unfoldable pub onResponse : VsockConnection → VsockConnection
@@ -62,11 +47,11 @@ abbrev pub shutOf : VsockConnection → ℕ → ConnState
 shutOf c flags = shutBy (c .state) (recvOff flags) (sendOff flags)
 
 -- THE SHUTDOWN RULE: both set and ring empty: Rst; both set in Established and ring not empty: the shutdown timer
-unfoldable pub onShutdown : VsockConnection → ℕ → ℕ → VsockConnection
-onShutdown c flags clock =
+unfoldable pub onShutdown : VsockConnection → Bool → ℕ → ℕ → VsockConnection
+onShutdown c empty flags clock =
     withState c (shutOf c flags)
-    (when (isEstablished (c .state) && bothOff (shutOf c flags) && not (quiet c)) (later clock (c .settings .«shutdown_timeout»)) (c .expiry))
-    (marked (c .«pending_rx») (bothOff (shutOf c flags) && quiet c) false false)
+    (when (isEstablished (c .state) && bothOff (shutOf c flags) && not empty) (later clock (c .settings .«shutdown_timeout»)) (c .expiry))
+    (marked (c .«pending_rx») (bothOff (shutOf c flags) && empty) false false)
 
 -- CREDIT_REQUEST: sets a credit update
 unfoldable pub onCreditRequest : VsockConnection → VsockConnection
@@ -74,22 +59,7 @@ onCreditRequest c = withState c (c .state) (c .expiry) (marked (c .«pending_rx�
 
 -- the ring and the count of taken bytes have moved
 unfoldable pub movedOf : VsockConnection → TxBuf → ℕ → VsockConnection
-movedOf c ring taken = record {
-  settings = c .settings;
-  state = c .state;
-  «local_cid» = c .«local_cid»;
-  «peer_cid» = c .«peer_cid»;
-  «local_port» = c .«local_port»;
-  «peer_port» = c .«peer_port»;
-  «tx_buf» = ring;
-  «fwd_cnt» = wadd (c .«fwd_cnt») taken;
-  «peer_buf_alloc» = c .«peer_buf_alloc»;
-  «peer_fwd_cnt» = c .«peer_fwd_cnt»;
-  «rx_cnt» = c .«rx_cnt»;
-  «last_fwd_cnt_to_peer» = c .«last_fwd_cnt_to_peer»;
-  «pending_rx» = c .«pending_rx»;
-  expiry = c .expiry;
-}
+movedOf c ring taken = regrouped c (peerOf c) (record { ring = ring; count = wadd (c .«fwd_cnt») taken }) (sentOf c) (phaseOf c)
 
 -- a credit update is set if (R - (fwd_cnt - last told)), wrapping, is below T
 unfoldable pub updatedOf : VsockConnection → VsockConnection
@@ -102,10 +72,10 @@ unfoldable pub onData : VsockConnection → SendPlan → Bool → TxBuf → Vsoc
 onData c p kills ring = when (p .goes) (when kills (killedOf (movedOf c ring (p .written))) (updatedOf (movedOf c ring (p .written)))) c
 
 -- the op selects the rule; all else: nothing more
-unfoldable pub ruleOf : VsockConnection → VsockPacketHdr → SendPlan → Bool → TxBuf → ℕ → VsockConnection
-ruleOf c pkt p kills ring clock =
+unfoldable pub ruleOf : VsockConnection → Bool → VsockPacketHdr → SendPlan → Bool → TxBuf → ℕ → VsockConnection
+ruleOf c empty pkt p kills ring clock =
     when (eqb (pkt .op) opResponse) (onResponse c)
-    (when (eqb (pkt .op) opShutdown) (onShutdown c (pkt .flags) clock)
+    (when (eqb (pkt .op) opShutdown) (onShutdown c empty (pkt .flags) clock)
     (when (eqb (pkt .op) opRw) (onData c p kills ring)
     (when (eqb (pkt .op) opCreditRequest) (onCreditRequest c) c)))
 
@@ -117,7 +87,7 @@ goesOf c op present = takes (c .state) && present && eqb op opRw
 
 -- ring empty: one write, also of 0 bytes; would-block counts as 0
 abbrev pub writesOf : VsockConnection → ℕ → Bool → Bool
-writesOf c op present = goesOf c op present && quiet c
+writesOf c op present = goesOf c op present && quiet (c .«tx_buf»)
 
 -- what a packet's data does, in numbers
 unfoldable pub planOf : VsockConnection → VsockPacketHdr → Bool → StreamAnswer → SendPlan
@@ -213,7 +183,7 @@ sendCarried i = carried (sendPlan i .goes && not (sendKills i)) (i .conn .«tx_b
 unfoldable pub sendDone : SendIn → SendLeft
 sendDone i = record {
   answer = told Done;
-  conn = ruleOf (heardOf (i .conn) (pktOf i)) (pktOf i) (sendPlan i) (sendKills i) (sendCarried i .ring) (i .clock);
+  conn = ruleOf (heardOf (i .conn) (pktOf i)) (quiet (i .conn .«tx_buf»)) (pktOf i) (sendPlan i) (sendKills i) (sendCarried i .ring) (i .clock);
   store = sendCarried i .store;
   out = take (sendPlan i .written) (payload i) ++ drop (sendPlan i .written) (i .out);
 }

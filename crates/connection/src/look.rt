@@ -110,11 +110,12 @@ impl VsockConnection {
             };
         };
         let state = self.state;
+        let ring = self.tx_buf;
         let blocked = credit(self) == 0;
         EvSet {
             answer,
             readable: polls(state) & !blocked,
-            writable: !is_quiet(self),
+            writable: !is_quiet(ring),
         }
     }
 

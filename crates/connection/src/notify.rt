@@ -58,7 +58,9 @@ impl VsockConnection {
                 };
             };
             let left = flushed.ring;
-            let conn = drained(seen, left, flushed.count, defs::has_failed(first));
+            let empty = is_quiet(left);
+            let fails = defs::has_failed(first);
+            let conn = drained(seen, left, flushed.count, empty, fails);
             return Outcome {
                 answer: absorbed,
                 conn,
@@ -72,7 +74,8 @@ impl VsockConnection {
 pub(crate) fn is_flush_due(conn: VsockConnection, writable: bool) -> bool
     ensures { λ r. ⌜ r ≡ flushDue conn writable ⌝ }
 {
-    writable & !is_quiet(conn)
+    let ring = conn.tx_buf;
+    writable & !is_quiet(ring)
 }
 
 fn see(conn: VsockConnection, readable: bool) -> VsockConnection
@@ -95,26 +98,32 @@ fn absorb(answer: Answer) -> Answer
 }
 
 // After a flush. A failed first write kills.
-fn drained(conn: VsockConnection, ring: TxBuf, taken: usize, fails: bool) -> VsockConnection
+fn drained(
+    conn: VsockConnection,
+    ring: TxBuf,
+    taken: usize,
+    empty: bool,
+    fails: bool,
+) -> VsockConnection
     requires { ⌜ taken ≤ maxRing ⌝ }
-    ensures { λ r. ⌜ r ≡ drainedOf conn ring taken fails ⌝ }
+    ensures { λ r. ⌜ r ≡ drainedOf conn ring taken empty fails ⌝ }
 {
     let next = moved(conn, ring, taken);
     if fails {
-        return settled(killed(next));
+        return settled(killed(next), empty);
     }
-    settled(next)
+    settled(next, empty)
 }
 
 // A guest that shut down both ways has waited for the ring to drain; any other may be owed a
 // credit update.
-fn settled(conn: VsockConnection) -> VsockConnection
-    ensures { λ r. ⌜ r ≡ settledOf conn ⌝ }
+fn settled(conn: VsockConnection, empty: bool) -> VsockConnection
+    ensures { λ r. ⌜ r ≡ settledOf conn empty ⌝ }
 {
     let state = conn.state;
     let expiry = conn.expiry;
     let pending = conn.pending_rx;
-    if both_off(state) & is_quiet(conn) {
+    if both_off(state) & empty {
         return with_state(conn, state, expiry, mark(pending, true, false, false));
     }
     updated(conn)

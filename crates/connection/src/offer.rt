@@ -60,7 +60,8 @@ impl VsockConnection {
         };
         let sound = is_sound_over(self, storage.len());
         let door = door_past_header(sound, pkt, present, buf.len(), now_ms);
-        let writes = goes(self, pkt.op, present) & is_quiet(self);
+        let ring = self.tx_buf;
+        let writes = goes(self, pkt.op, present) & is_quiet(ring);
         is_open(door) & writes
     }
 

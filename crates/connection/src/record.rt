@@ -71,10 +71,9 @@ pub(crate) fn is_sound_over(conn: VsockConnection, storage: usize) -> bool
 }
 
 // Whether the ring counts as empty.
-pub(crate) fn is_quiet(conn: VsockConnection) -> bool
-    ensures { λ r. ⌜ r ≡ quiet conn ⌝ }
+pub(crate) fn is_quiet(ring: TxBuf) -> bool
+    ensures { λ r. ⌜ r ≡ quiet ring ⌝ }
 {
-    let ring = conn.tx_buf;
     ring.used() == 0
 }
 

@@ -87,7 +87,8 @@ impl VsockConnection {
             storage,
             out,
         );
-        let conn = rule(heard(self, pkt), pkt, plan, kills, left, now_ms);
+        let empty = is_quiet(ring);
+        let conn = rule(heard(self, pkt), empty, pkt, plan, kills, left, now_ms);
         Outcome { answer, conn }
     }
 }
@@ -103,8 +104,9 @@ fn plan_send(
 ) -> SendPlan
     ensures { λ r. ⌜ r ≡ planOf conn pkt present answer ⌝ }
 {
+    let ring = conn.tx_buf;
     let goes = goes(conn, pkt.op, present);
-    let writes = goes & is_quiet(conn);
+    let writes = goes & is_quiet(ring);
     let len = choose(goes, pkt.len as usize);
     let StreamAnswer::Count(count) = answer else {
         return SendPlan {
@@ -199,6 +201,7 @@ fn carry(
 // The op, 0 to 7 or anything above, selects the rule.
 fn rule(
     conn: VsockConnection,
+    empty: bool,
     pkt: VsockPacketHdr,
     plan: SendPlan,
     kills: bool,
@@ -206,12 +209,12 @@ fn rule(
     now_ms: u64,
 ) -> VsockConnection
     requires { ⌜ Lingers conn «now_ms» × (plan .written ≤ maxPacket) ⌝ }
-    ensures { λ r. ⌜ r ≡ ruleOf conn pkt plan kills ring «now_ms» ⌝ }
+    ensures { λ r. ⌜ r ≡ ruleOf conn empty pkt plan kills ring «now_ms» ⌝ }
 {
     let op = pkt.op;
     match op {
         2 => on_response(conn),
-        4 => on_shutdown(conn, pkt.flags, now_ms),
+        4 => on_shutdown(conn, empty, pkt.flags, now_ms),
         5 => on_data(conn, plan, kills, ring),
         7 => on_credit_request(conn),
         0 | 1 | 3 | 6 | 8..=65535 => conn,
@@ -242,19 +245,18 @@ fn on_response(conn: VsockConnection) -> VsockConnection
 
 // Flags only grow. With both set the connection is reset as soon as the ring is empty; only where
 // the guest sets both at once, and bytes are held, is there a time that this may take.
-fn on_shutdown(conn: VsockConnection, flags: u32, now_ms: u64) -> VsockConnection
+fn on_shutdown(conn: VsockConnection, empty: bool, flags: u32, now_ms: u64) -> VsockConnection
     requires { ⌜ Lingers conn «now_ms» ⌝ }
-    ensures { λ r. ⌜ r ≡ onShutdown conn flags «now_ms» ⌝ }
+    ensures { λ r. ⌜ r ≡ onShutdown conn empty flags «now_ms» ⌝ }
 {
     let state = conn.state;
     let expiry = conn.expiry;
     let pending = conn.pending_rx;
     let linger = later_by(now_ms, conn.settings.shutdown_timeout);
-    let quiet = is_quiet(conn);
     let after = shut(state, is_recv_off(flags), is_send_off(flags));
     let off = both_off(after);
-    let timer = choose_timer(is_established(state) & off & !quiet, linger, expiry);
-    with_state(conn, after, timer, mark(pending, off & quiet, false, false))
+    let timer = choose_timer(is_established(state) & off & !empty, linger, expiry);
+    with_state(conn, after, timer, mark(pending, off & empty, false, false))
 }
 
 fn choose_timer(test: bool, timer: Timer, other: Timer) -> Timer

@@ -12,7 +12,7 @@ use Rattle.defs.specs.declared.stream.ReadAnswer.{ReadAnswer}
 use Rattle.defs.specs.declared.stream.ReadAnswer.the-variants.{Count, WouldBlock, Failed}
 use Rattle.defs.proofs.Basics.{and-false}
 use Rattle.defs.proofs.ChoiceLaws.{when-true, when-false}
-use Rattle.defs.proofs.LadderLaws.{firstRow, by-first-row}
+use Rattle.defs.proofs.LadderLaws.{firstInTurn, by-turn}
 use Rattle.csm.specs.State.{gives}
 use Rattle.csm.specs.Turn.{readStep, dataStep, updateStep, dataFirst, turnStep, turnReads, hasNothing, lacksBuffer}
 use Rattle.csm.specs.Row.{rowOf}
@@ -28,10 +28,9 @@ use Rattle.csm.specs.declared.turn.RxStep.the-variants.{Rst, Response, R
 
 by-answer : (r s q w up noCredit present u : Bool) (a : ReadAnswer)
     → told (rowOf (when r Rst (when s Response (when q Request (when w (dataStep up noCredit present (readStep a (updateStep u))) (updateStep u))))) .answer) .number
-    ≡ firstRow
-    (false ∷ false ∷ false ∷ false ∷ false ∷ false
-    ∷ (not r && not s && not q && (not w || not r && not s && not q && w && up && not noCredit && present && readBlocks a) && not u)
-    ∷ (not r && not s && not q && w && up && not noCredit && not present)
+    ≡ firstInTurn
+    ((7, not r && not s && not q && (not w || not r && not s && not q && w && up && not noCredit && present && readBlocks a) && not u)
+    ∷ (8, not r && not s && not q && w && up && not noCredit && not present)
     ∷ [])
 unfolding when
 by-answer true s q w up noCredit present u a = refl
@@ -53,12 +52,12 @@ by-answer false false false true true false true u Failed = refl
 
 pub turn-number : (p : PendingRxSet) (s : ConnState) (noCredit present : Bool) (a : ReadAnswer)
     → told (rowOf (turnStep p s noCredit present a) .answer) .number
-    ≡ firstRow (false ∷ false ∷ false ∷ false ∷ false ∷ false ∷ hasNothing p s noCredit present a ∷ lacksBuffer p s noCredit present ∷ [])
+    ≡ firstInTurn ((7, hasNothing p s noCredit present a) ∷ (8, lacksBuffer p s noCredit present) ∷ [])
 unfolding turnStep turnReads hasNothing lacksBuffer
 turn-number p s noCredit present a = by-answer (p .rst) (p .response) (p .request) (p .rw) (gives s) noCredit present (p .«credit_update») a
 
 pub turn-answers : TurnAnswers
-turn-answers p s noCredit present a = by-first-row (told (rowOf (turnStep p s noCredit present a) .answer)) _ (turn-number p s noCredit present a)
+turn-answers p s noCredit present a = by-turn (told (rowOf (turnStep p s noCredit present a) .answer)) _ (turn-number p s noCredit present a)
 
 -- ---- how much is said
 

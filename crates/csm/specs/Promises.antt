@@ -1,12 +1,12 @@
 -- What this crate promises, in statements only; proofs/Promises has a line for each. Assumes nothing.
 use Prim.Native.Nat.{ℕ, _≤_}
 use mathlib.Core.Path.{_≡_}
-use mathlib.Core.Bool.{Bool, false}
+use mathlib.Core.Bool.{Bool}
 use mathlib.Core.List.{[], _∷_}
 use Rattle.defs.specs.Choice.{when}
 use Rattle.defs.specs.Answer.{told}
 use Rattle.defs.specs.Pinned.{Pinned}
-use Rattle.defs.specs.Promises.{AnswersBy}
+use Rattle.defs.specs.Promises.{AnswersInTurn}
 use Rattle.defs.specs.Stream.{readCounted}
 use Rattle.defs.specs.declared.stream.ReadAnswer.{ReadAnswer}
 use Rattle.csm.specs.State.{polls, takes, asks, isLocalInit, isEstablished, recvOff, sendOff, shutBy, bothOff, Grown}
@@ -33,8 +33,8 @@ SaysWhatWasRead =
 abbrev pub TurnAnswers : Type 0
 TurnAnswers =
     (p : PendingRxSet) (s : ConnState) (noCredit present : Bool) (a : ReadAnswer)
-    → AnswersBy (told (rowOf (turnStep p s noCredit present a) .answer))
-    (false ∷ false ∷ false ∷ false ∷ false ∷ false ∷ hasNothing p s noCredit present a ∷ lacksBuffer p s noCredit present ∷ [])
+    → AnswersInTurn (told (rowOf (turnStep p s noCredit present a) .answer))
+    ((7, hasNothing p s noCredit present a) ∷ (8, lacksBuffer p s noCredit present) ∷ [])
 
 -- a SHUTDOWN takes no flag back
 abbrev pub ShutOnlyGrows : Type 0

@@ -13,11 +13,12 @@ use Rattle.defs.specs.Answer.{Told, told, isDone, whenDone}
 use Rattle.defs.specs.Ladder.{doorOf, lateOf, lowestOf, recordAnswer, clockAnswer}
 use Rattle.defs.specs.Limits.{isClock}
 use Rattle.defs.specs.Stream.{stoppedBy, stops}
-use Rattle.defs.specs.Promises.{LowestRow, AnswersBy, LowestNumber, RecordAnswers, ClockAnswers}
+use Rattle.defs.specs.Promises.{LowestRow, AnswersBy, rowAt, FirstInTurn, AnswersInTurn, LowestNumber, RecordAnswers, ClockAnswers}
 use Rattle.defs.specs.declared.answer.Answer.{Answer}
 use Rattle.defs.specs.declared.answer.Answer.the-variants.{Done}
 use Rattle.defs.specs.declared.stream.StreamAnswer.{StreamAnswer}
 use Rattle.defs.specs.declared.stream.StreamAnswer.the-variants.{Count, WouldBlock, Failed}
+use Rattle.defs.proofs.ChoiceLaws.{when-true, when-false}
 use Rattle.defs.proofs.AnswerLaws.{NotDone, not-done, is-done, done-is-done, when-done, when-not-done}
 use Rattle.defs.proofs.Basics.{never, lt-or-ge, true-or-false}
 
@@ -72,9 +73,46 @@ pub by-first-row : (t : Told) (tests : List Bool) → t .number ≡ firstRow tes
 by-first-row t tests e n =
     (λ p. subst (λ (k : ℕ). LowestRow tests k) (sym e ∙ p) (first-is-lowest tests), λ q. e ∙ one-lowest tests _ n (first-is-lowest tests) q)
 
+-- the number of the first row whose test holds, 0 where none does
+abbrev pub firstInTurn : List (ℕ × Bool) → ℕ
+firstInTurn [] = 0
+firstInTurn (r ∷ rows) = when (r .1) (r .0) (firstInTurn rows)
+
+first-holds : (r : ℕ × Bool) (rows : List (ℕ × Bool)) → r .1 ≡ true → FirstInTurn (r ∷ rows) (firstInTurn (r ∷ rows))
+first-holds r rows t = (0, sym (when-true (r .0) (firstInTurn rows) (r .1) t), t, λ j l. absurd (not-suc-le-zero l))
+
+first-passes : (r : ℕ × Bool) (rows : List (ℕ × Bool)) → r .1 ≡ false → FirstInTurn rows (firstInTurn rows) → FirstInTurn (r ∷ rows) (firstInTurn (r ∷ rows))
+first-passes r rows f p = (suc (p .0), p .1 ∙ sym (when-false (r .0) (firstInTurn rows) (r .1) f), p .2, λ j l. above j l)
+  where
+    above : (j : ℕ) → j < suc (p .0) → rowAt (r ∷ rows) j .1 ≡ false
+    above zero l = f
+    above (suc j) l = p .3 j (le-of-suc-le-suc l)
+
+first-in-turn : (rows : List (ℕ × Bool)) → FirstInTurn rows (firstInTurn rows)
+first-in-turn [] = (0, refl, refl, λ j l. absurd (not-suc-le-zero l))
+first-in-turn (r ∷ rows) =
+    ⊎-elim (λ (t : r .1 ≡ true). first-holds r rows t) (λ (f : r .1 ≡ false). first-passes r rows f (first-in-turn rows)) (true-or-false (r .1))
+
+one-first : (rows : List (ℕ × Bool)) (n k : ℕ) → FirstInTurn rows n → FirstInTurn rows k → n ≡ k
+one-first rows n k p q =
+    ⊎-elim
+    (λ (l : p .0 < q .0). absurd (clash _ (q .3 (p .0) l) (p .2)))
+    (λ (l : q .0 ≤ p .0).
+    ⊎-elim
+    (λ (m : q .0 < p .0). absurd (clash _ (p .3 (q .0) m) (q .2)))
+    (λ (m : p .0 ≤ q .0). let e : p .0 ≡ q .0 = omega arith in sym (p .1) ∙ ap (λ (i : ℕ). rowAt rows i .0) e ∙ q .1)
+    (lt-or-ge (q .0) (p .0)))
+    (lt-or-ge (p .0) (q .0))
+
+-- where a number is that of the first row whose test holds
+pub by-turn : (t : Told) (rows : List (ℕ × Bool)) → t .number ≡ firstInTurn rows → AnswersInTurn t rows
+by-turn t rows e = record {
+  exactly = λ n. (λ p. subst (FirstInTurn rows) (sym e ∙ p) (first-in-turn rows), λ q. e ∙ one-first rows _ n (first-in-turn rows) q);
+}
+
 -- what comes after door and late rungs decides where these pass
-pub ladder-then : (r h c l a m : Bool) (end : Answer) (rest : List Bool) → told end .number ≡ firstRow (false ∷ false ∷ false ∷ false ∷ false ∷ false ∷ rest)
-    → told (lowestOf (lowestOf (doorOf r h c l) (lateOf a m)) end) .number ≡ firstRow (r ∷ h ∷ c ∷ l ∷ a ∷ m ∷ rest)
+pub ladder-then : (r h c l a m : Bool) (end : Answer) (rest : List (ℕ × Bool)) → told end .number ≡ firstInTurn rest
+    → told (lowestOf (lowestOf (doorOf r h c l) (lateOf a m)) end) .number ≡ firstInTurn ((1, r) ∷ (2, h) ∷ (3, c) ∷ (4, l) ∷ (5, a) ∷ (6, m) ∷ rest)
 unfolding lowestOf doorOf lateOf whenDone isDone when
 ladder-then true h c l a m end rest e = refl
 ladder-then false true c l a m end rest e = refl
@@ -85,7 +123,8 @@ ladder-then false false false false false true end rest e = refl
 ladder-then false false false false false false end rest e = e
 
 -- number 10, of a call that makes one write
-pub stop-number : (a : StreamAnswer) → told (stoppedBy a) .number ≡ firstRow (false ∷ false ∷ false ∷ false ∷ false ∷ false ∷ false ∷ false ∷ false ∷ stops a ∷ [])
+pub stop-number : (a : StreamAnswer) → told (stoppedBy a) .number ≡ firstInTurn ((10, stops a) ∷ [])
+unfolding when
 stop-number (Count n) = refl
 stop-number WouldBlock = refl
 stop-number Failed = refl
@@ -106,17 +145,19 @@ lowest-end p =
     (true-or-false (isDone p))
 
 pub lowest-number : LowestNumber
-lowest-number r h c l a m = by-first-row (told (lowestOf (doorOf r h c l) (lateOf a m))) _ (ap (λ (x : Answer). told x .number) (sym (lowest-end _)) ∙ ladder-then r h c l a m Done [] refl)
+unfolding when
+lowest-number r h c l a m =
+    by-turn (told (lowestOf (doorOf r h c l) (lateOf a m))) _ (ap (λ (x : Answer). told x .number) (sym (lowest-end _)) ∙ ladder-then r h c l a m Done [] refl)
 
-record-number : (s : Bool) → told (recordAnswer s) .number ≡ firstRow (not s ∷ [])
+record-number : (s : Bool) → told (recordAnswer s) .number ≡ firstInTurn ((1, not s) ∷ [])
 unfolding recordAnswer doorOf when
 record-number true = refl
 record-number false = refl
 
 pub record-answers : RecordAnswers
-record-answers sound = by-first-row (told (recordAnswer sound)) _ (record-number sound)
+record-answers sound = by-turn (told (recordAnswer sound)) _ (record-number sound)
 
-clock-number : (s c : Bool) → told (doorOf (not s) false (not c) false) .number ≡ firstRow (not s ∷ false ∷ not c ∷ [])
+clock-number : (s c : Bool) → told (doorOf (not s) false (not c) false) .number ≡ firstInTurn ((1, not s) ∷ (3, not c) ∷ [])
 unfolding doorOf when
 clock-number true true = refl
 clock-number true false = refl
@@ -124,7 +165,7 @@ clock-number false c = refl
 
 pub clock-answers : ClockAnswers
 unfolding clockAnswer
-clock-answers sound ms = by-first-row (told (clockAnswer sound ms)) _ (clock-number sound (isClock ms))
+clock-answers sound ms = by-turn (told (clockAnswer sound ms)) _ (clock-number sound (isClock ms))
 
 -- ---- for callers: what a part that passed or refused says
 

@@ -35,16 +35,29 @@ LowestRow tests (suc n) = (getD tests n false ≡ true) × ((m : ℕ) → m < n 
 abbrev pub AnswersBy : Told → List Bool → Type 0
 AnswersBy t tests = (n : ℕ) → Exactly (t .number ≡ n) (LowestRow tests n)
 
+-- row i of a list of rows, each a number of 01's table and its test; past the last stands 0, "otherwise"
+abbrev pub rowAt : List (ℕ × Bool) → ℕ → ℕ × Bool
+rowAt rows i = getD rows i (0, true)
+
+-- a row of this number is the first whose test holds
+abbrev pub FirstInTurn : List (ℕ × Bool) → ℕ → Type 0
+FirstInTurn rows n = (i : ℕ) × (rowAt rows i .0 ≡ n) × (rowAt rows i .1 ≡ true) × ((j : ℕ) → j < i → rowAt rows j .1 ≡ false)
+
+-- 01's "given exactly when" and "several at once: the lowest number": rows stand in the order in which they are tried
+pub record AnswersInTurn (t : Told) (rows : List (ℕ × Bool)) : Type 0 where
+  pub exactly : (n : ℕ) → Exactly (t .number ≡ n) (FirstInTurn rows n)
+
 -- the ladder does so, rows 1 to 6
 abbrev pub LowestNumber : Type 0
-LowestNumber = (r h c l a m : Bool) → AnswersBy (told (lowestOf (doorOf r h c l) (lateOf a m))) (r ∷ h ∷ c ∷ l ∷ a ∷ m ∷ [])
+LowestNumber =
+    (r h c l a m : Bool) → AnswersInTurn (told (lowestOf (doorOf r h c l) (lateOf a m))) ((1, r) ∷ (2, h) ∷ (3, c) ∷ (4, l) ∷ (5, a) ∷ (6, m) ∷ [])
 
 -- so does a call that tests nothing but its record, and one that tests its clock besides
 abbrev pub RecordAnswers : Type 0
-RecordAnswers = (sound : Bool) → AnswersBy (told (recordAnswer sound)) (not sound ∷ [])
+RecordAnswers = (sound : Bool) → AnswersInTurn (told (recordAnswer sound)) ((1, not sound) ∷ [])
 
 abbrev pub ClockAnswers : Type 0
-ClockAnswers = (sound : Bool) (ms : ℕ) → AnswersBy (told (clockAnswer sound ms)) (not sound ∷ false ∷ not (isClock ms) ∷ [])
+ClockAnswers = (sound : Bool) (ms : ℕ) → AnswersInTurn (told (clockAnswer sound ms)) ((1, not sound) ∷ (3, not (isClock ms)) ∷ [])
 
 -- a power of two
 abbrev pub PowerOfTwo : ℕ → Type 0

@@ -13,7 +13,7 @@ use Rattle.defs.specs.declared.answer.Answer.{Answer}
 use Rattle.defs.specs.declared.answer.Answer.the-variants.{Done, TxBufFull}
 use Rattle.defs.specs.declared.stream.StreamAnswer.{StreamAnswer}
 use Rattle.defs.proofs.AnswerLaws.{answer-told}
-use Rattle.defs.proofs.LadderLaws.{firstRow, by-first-row, ladder-then, lowest-end, stop-number}
+use Rattle.defs.proofs.LadderLaws.{firstInTurn, by-turn, ladder-then, lowest-end, stop-number}
 use Rattle.txbuf.specs.Record.{usedOf, soundOf}
 use Rattle.txbuf.specs.Push.{PushIn, PushLeft, pushAnswer, pushAnswerOf, pushDone, pushKept, pushOf}
 use Rattle.txbuf.specs.Flush.{FlushIn, FlushLeft, endsBy, flushAnswer, flushCount, flushOver, flushDone, flushKept, flushOf}
@@ -21,17 +21,17 @@ use Rattle.txbuf.specs.Answers.{PushAnswers, FlushAnswers}
 
 -- ---- push
 
-full-number : (full : Bool) → told (when full TxBufFull Done) .number ≡ firstRow (false ∷ false ∷ false ∷ false ∷ false ∷ false ∷ false ∷ false ∷ full ∷ [])
+full-number : (full : Bool) → told (when full TxBufFull Done) .number ≡ firstInTurn ((9, full) ∷ [])
 unfolding when
 full-number true = refl
 full-number false = refl
 
 push-ladder : (r l full : Bool) → told (lowestOf (doorOf r false false l) (when full TxBufFull Done)) .number
-    ≡ firstRow (r ∷ false ∷ false ∷ l ∷ false ∷ false ∷ false ∷ false ∷ full ∷ [])
+    ≡ firstInTurn ((1, r) ∷ (4, l) ∷ (9, full) ∷ [])
 unfolding lateOf when
 push-ladder r l full =
     ap (λ (x : Answer). told (lowestOf x (when full TxBufFull Done)) .number) (sym (lowest-end (doorOf r false false l)))
-    ∙ ladder-then r false false l false false (when full TxBufFull Done) (false ∷ false ∷ full ∷ []) (full-number full)
+    ∙ ladder-then r false false l false false (when full TxBufFull Done) ((9, full) ∷ []) (full-number full)
 
 push-told : (i : PushIn) → pushOf i .answer ≡ told (pushAnswerOf i)
 unfolding pushOf pushDone pushKept
@@ -40,14 +40,14 @@ push-told i = answer-told (λ (o : PushLeft). o .answer) (pushAnswerOf i) (pushD
 pub push-answers : PushAnswers
 unfolding pushAnswer
 push-answers i left says =
-    by-first-row (left .answer) _
+    by-turn (left .answer) _
     (ap (λ (o : PushLeft). o .answer .number) says ∙ ap (λ (t : Told). t .number) (push-told i)
     ∙ push-ladder (not (soundOf (i .ring) (length (i .store)))) (not (isPacketLength (length (i .src)))) _)
 
 -- ---- flush
 
 end-number : (none : Bool) (a : StreamAnswer) → told (when none Done (stoppedBy a)) .number
-    ≡ firstRow (false ∷ false ∷ false ∷ false ∷ false ∷ false ∷ false ∷ false ∷ false ∷ (not none && stops a) ∷ [])
+    ≡ firstInTurn ((10, not none && stops a) ∷ [])
 unfolding when
 end-number true a = refl
 end-number false a = stop-number a
@@ -57,11 +57,11 @@ unfolding flushOf flushDone flushKept
 flush-told i = answer-told (λ (o : FlushLeft). o .answer) (flushAnswer i) (flushDone i) (flushKept i) refl refl
 
 pub flush-answers : FlushAnswers
-unfolding flushAnswer recordAnswer endsBy
+unfolding flushAnswer recordAnswer endsBy when
 flush-answers i left says =
-    by-first-row (left .answer) _
+    by-turn (left .answer) _
     (ap (λ (o : FlushLeft). o .answer .number) says ∙ ap (λ (t : Told). t .number) (flush-told i)
     ∙ ladder-then (not (soundOf (i .ring) (length (i .store)))) false false false (flushOver i) (ltb (length (i .out)) (flushCount i))
     (when (eqb (usedOf (i .ring)) 0) Done (stoppedBy (i .answers .first)))
-    (false ∷ false ∷ false ∷ (not (eqb (usedOf (i .ring)) 0) && stops (i .answers .first)) ∷ [])
+    ((10, not (eqb (usedOf (i .ring)) 0) && stops (i .answers .first)) ∷ [])
     (end-number (eqb (usedOf (i .ring)) 0) (i .answers .first)))

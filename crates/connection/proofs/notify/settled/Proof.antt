@@ -6,12 +6,12 @@ use Rattle.connection.proofs.notify.settled.Tie as tie
 returns : tie.Need-returns
 returns c =
     let q = c .before .before .before in
-    settled-reset _ _ _ _ _ (q .before .both-off .ensures) (q .is-quiet .ensures) (c .before .before .if1 .taken) (c .with-state .ensures) (c .before .mark .ensures)
+    settled-reset _ _ _ _ _ (q .both-off .ensures) (c .before .before .if1 .taken) (c .with-state .ensures) (c .before .mark .ensures)
 
 returns-2 : tie.Need-returns-2
 returns-2 c =
     let q = c .before .before in
-    settled-updated _ _ _ _ (q .before .both-off .ensures) (q .is-quiet .ensures) (c .before .if1 .left) (c .updated .ensures)
+    settled-updated _ _ _ _ (q .both-off .ensures) (c .before .if1 .left) (c .updated .ensures)
 
 pub settled-spec : {M : Type 1} → statement M
-settled-spec = tie.close (tie.spec (search needs) (search needs) (search needs) (search needs) returns (search needs) returns-2)
+settled-spec = tie.close (tie.spec (search needs) (search needs) (search needs) returns (search needs) returns-2)

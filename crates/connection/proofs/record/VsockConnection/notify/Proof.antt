@@ -38,14 +38,14 @@ returns-2 : tie.Need-returns-2
 returns-2 c = notify-kept (given (at (c .before))) _ _ (flushLeft (c .before)) (answered (c .before)) (c .match2 .keys2)
 
 drained-requires : tie.Need-drained-requires
-drained-requires c κs = flush-within _ _ _ _ (answered (c .before .before .before .before))
+drained-requires c κs = flush-within _ _ _ _ (answered (c .before .before .before .before .before))
 
 returns-3 : tie.Need-returns-3
 returns-3 c =
-    let e = c .before .before .before in
+    let e = c .before .before .before .before in
     let f = e .before .before in
     let s = f .before .before .before .before .before .before .before .before in
-    notify-done (given (at f)) _ _ (flushLeft f) _ _ _ (answered f) (e .enum-told2 .given .1) (s .see .ensures) (c .before .has-failed .ensures) (c .drained .ensures)
+    notify-done (given (at f)) _ _ (flushLeft f) _ _ _ _ (answered f) (e .enum-told2 .given .1) (s .see .ensures) (c .before .before .is-quiet .ensures) (c .before .has-failed .ensures) (c .drained .ensures)
 
 returns-4 : tie.Need-returns-4
 returns-4 c =
@@ -54,4 +54,4 @@ returns-4 c =
     notify-seen (given d) _ _ (d .notify-door .ensures) (s .before .enum-told .given .1) (sym (c .before .is-flush-due .ensures) ∙ c .if1 .left) (s .see .ensures)
 
 pub notify-spec : {M : Type 1} → statement M
-notify-spec = tie.close (tie.spec (search needs) (λ c. search needs) returns (search needs) (search needs) (search needs) (search needs) (λ c. search needs) (λ c. search needs) returns-2 (search needs) drained-requires (λ c. search needs) returns-3 returns-4)
+notify-spec = tie.close (tie.spec (search needs) (λ c. search needs) returns (search needs) (search needs) (search needs) (search needs) (λ c. search needs) (λ c. search needs) returns-2 (search needs) (search needs) drained-requires (λ c. search needs) returns-3 returns-4)

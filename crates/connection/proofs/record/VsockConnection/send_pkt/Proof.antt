@@ -60,17 +60,17 @@ carry-requires c κs =
 
 rule-requires : tie.Need-rule-requires
 rule-requires c κs =
-    let y = c .before .before .before .before .before in
+    let y = c .before .before .before .before .before .before in
     let e = y .before .before .before .before .before .before in
     let k = known (e .before .before .before) in
     rules _ _ _ _ (fine (e .before)) (k .plan) (c .heard .ensures)
 
 returns-3 : tie.Need-returns-3
 returns-3 c =
-    let y = c .before .before .before .before .before .before in
+    let y = c .before .before .before .before .before .before .before in
     let e = y .before .before .before .before .before .before in
     let f = e .before .before .before in
-    send-left (at f) _ _ _ _ _ _ _ _ _ (known f) (e .before .enum-told2 .given .1) (e .kills .ensures) (y .carry .ensures .0) (y .carry .ensures .1) (c .before .heard .ensures) (c .rule .ensures)
+    send-left (at f) _ _ _ _ _ _ _ _ _ _ (known f) (e .before .enum-told2 .given .1) (e .kills .ensures) (y .carry .ensures .0) (y .carry .ensures .1) (c .before .before .is-quiet .ensures) (c .before .heard .ensures) (c .rule .ensures)
 
 pub send-pkt-spec : {M : Type 1} → statement M
-send-pkt-spec = tie.close (tie.spec (search needs) (search needs) (λ c. search needs) (λ c. search needs) (search needs) returns (search needs) (search needs) (search needs) (search needs) (λ c. search needs) returns-2 kills-requires slice-aggregate-carry carry-requires (search needs) rule-requires (λ c. search needs) (λ c. search needs) returns-3)
+send-pkt-spec = tie.close (tie.spec (search needs) (search needs) (λ c. search needs) (λ c. search needs) (search needs) returns (search needs) (search needs) (search needs) (search needs) (λ c. search needs) returns-2 kills-requires slice-aggregate-carry carry-requires (search needs) (search needs) rule-requires (λ c. search needs) (λ c. search needs) returns-3)

@@ -13,7 +13,7 @@ returns-2 : tie.Need-returns-2
 returns-2 c =
     let q = c .before in
     let g = q .before in
-    let p = g .before in
+    let p = g .before .before in
     let s = p .before in
     let k = s .before in
     let d = k .before .before .before in
