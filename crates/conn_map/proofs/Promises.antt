@@ -17,5 +17,4 @@ pub each-call-pinned : EachCallPinned
 each-call-pinned = record {
   key-of = by-equation _ _ _;
   is-sound = by-equation _ _ _;
-  has-room = by-equation _ _ _;
 }

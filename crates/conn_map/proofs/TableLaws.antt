@@ -357,3 +357,17 @@ module _ {A : Type 0} (test : Slot → Bool) (make : Slot → A) (ports used mar
   pub rest-end : (i : ℕ) → length ports ≤ i → rest i ≡ []
   unfolding rest gathered chosen slotsFrom
   rest-end i h = let s : length ports - i ≡ 0 = omega arith in rw s
+
+-- ---- what a build knows past its refusals: its limit within its places, the slices equally long
+
+pub record Ready (most limit : ℕ) (ports used marks : List ℕ) : Type 0 where
+  pub in-range : limit ≤ most
+  pub used-long : length used ≡ length ports
+  pub marks-long : length marks ≡ length ports
+
+pub ready : (most limit : ℕ) (ports used marks : List ℕ) (limited : Bool) → (limited ≡ true → limit ≤ most) → limited && soundTable ports used (length marks) ≡ true
+    → Ready most limit ports used marks
+ready most limit ports used marks limited fits e =
+    let p = both limited _ e in
+    let s = sound-means-distinct ports used (length marks) .0 (p .1) in
+    record { in-range = fits (p .0); used-long = s .1; marks-long = s .2 }

@@ -11,7 +11,6 @@ use Rattle.defs.specs.Reading.{Hold}
 use Rattle.conn_map.specs.Key.{keyOf}
 use Rattle.conn_map.specs.Edges.{lastPair}
 use Rattle.conn_map.specs.Table.{usedAt, soundTable}
-use Rattle.conn_map.specs.Places.{hasRoom}
 use Rattle.conn_map.specs.declared.key.ConnMapKey.{ConnMapKey}
 
 -- 01: no two used slots have the same ports
@@ -38,13 +37,7 @@ pub record TableIn : Type 0 where
   pub used : List ℕ
   pub marks : ℕ
 
-pub record RoomIn : Type 0 where
-  pub synced : Bool
-  pub len : ℕ
-  pub limit : ℕ
-
 -- every public call: any two outcomes that meet its contract are identical
 pub record EachCallPinned : Type 0 where
   pub key-of : Pinned ℕ ConnMapKey (λ ports r. r ≡ keyOf ports)
   pub is-sound : Pinned TableIn Bool (λ i r. r ≡ soundTable (i .ports) (i .used) (i .marks))
-  pub has-room : Pinned RoomIn Bool (λ i r. r ≡ hasRoom (i .synced) (i .len) (i .limit))

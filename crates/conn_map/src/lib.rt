@@ -1,11 +1,8 @@
 // The connection table as the queues see it (muxer_impl.rs, `HashMap<ConnMapKey, VsockConnection>`):
-// lent parallel slices of numbers in slot order, so that a walk over it has one order. Beside it
-// stands what the two queues share.
+// lent parallel slices of numbers in slot order, so that a walk over it has one order.
 mod key;
-mod room;
 mod table;
 
 pub use key::ConnMapKey;
 pub use key::key_of;
-pub use room::has_room;
 pub use table::is_sound;

@@ -7,7 +7,8 @@ ghost use Rattle.conn_map.specs.Table.{soundTable, homeOf, seen, behind,
 use defs::limits;
 
 // Whether the table is sound; `marks` is the length of the third slice that the call lends.
-pub fn is_sound(ports: &[u64], used: &[u8], marks: usize) -> bool
+// One lifetime for both slices: so fields of one record can be lent together.
+pub fn is_sound<'a>(ports: &'a [u64], used: &'a [u8], marks: usize) -> bool
     ensures { λ r. ⌜ r ≡ soundTable (now (ports .entry)) (now (used .entry)) marks ⌝ }
 {
     if !limits::is_slot_count(ports.len()) {

@@ -1,7 +1,6 @@
 pub mod Edges
 pub mod QueueLaws
 pub mod PushLaws
-pub mod PopLaws
 pub mod SortLaws
 pub mod BuildLaws
 pub mod Promises

@@ -1,20 +1,20 @@
 -- `from_conn_map` (01, "The two queues"), as a function of the list of slots. Assumes nothing.
 use Prim.Native.Nat.{ℕ}
 use mathlib.Core.Path.{_≡_}
-use mathlib.Core.Bool.{Bool, true, not, _&&_}
-use mathlib.Core.List.{List, []}
+use mathlib.Core.Bool.{Bool, not, _&&_}
+use mathlib.Core.List.{List}
 use lib.Dec.{leb, ltb, eqb}
 use lib.ListN.{length, take}
 use Rattle.defs.specs.Ladder.{clockAnswer}
 use Rattle.defs.specs.Limits.{isKillqLimit}
 use Rattle.defs.specs.declared.answer.Answer.{Answer}
 use Rattle.conn_map.specs.Table.{Slot, slotsOf, gathered, soundTable}
-use Rattle.conn_map.specs.Queued.{QueuedLeft, madeOf}
-use Rattle.muxer_killq.specs.Queue.{pack}
+use Rattle.queue.specs.Queued.{QueuedLeft, madeOf}
+use Rattle.muxer_killq.specs.Queue.{killq, pack}
 use Rattle.muxer_killq.specs.Push.{itemAt}
 use Rattle.muxer_killq.specs.Sort.{sortByTime}
 use Rattle.muxer_killq.specs.declared.item.MuxerKillQItem.{MuxerKillQItem}
-use Rattle.muxer_killq.specs.declared.queue.MuxerKillQ.{MuxerKillQ}
+use Rattle.muxer_killq.specs.declared.killq.MuxerKillQ.{MuxerKillQ}
 
 -- a used slot whose time is after now
 abbrev pub isDue : ℕ → Slot → Bool
@@ -45,7 +45,7 @@ buildAnswer i = clockAnswer (isKillqLimit (i .limit) && soundTable (i .ports) (i
 
 -- a refused build is an empty, synced queue of limit 0
 unfoldable pub buildOf : BuildIn → QueuedLeft MuxerKillQ
-buildOf i = madeOf (buildAnswer i) (builtFrom (i .limit) (i .clock) (slotsOf (i .ports) (i .used) (i .times))) (pack [] 0 true)
+buildOf i = madeOf killq (buildAnswer i) (builtFrom (i .limit) (i .clock) (slotsOf (i .ports) (i .used) (i .times)))
 
 -- THE STATEMENT of `from_conn_map`
 abbrev pub BuildSays : BuildIn → QueuedLeft MuxerKillQ → Type 0

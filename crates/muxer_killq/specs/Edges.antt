@@ -13,7 +13,7 @@ use Rattle.muxer_killq.specs.Push.{itemAt}
 use Rattle.muxer_killq.specs.Pop.{noKey, popOf}
 use Rattle.muxer_killq.specs.Sort.{sortByTime}
 use Rattle.muxer_killq.specs.Build.{dueOf}
-use Rattle.muxer_killq.specs.declared.queue.MuxerKillQ.{MuxerKillQ}
+use Rattle.muxer_killq.specs.declared.killq.MuxerKillQ.{MuxerKillQ}
 
 -- a queue of limit 1 with one item, at 500
 abbrev key : ConnMapKey
@@ -25,8 +25,8 @@ one = pack (itemAt key 500 ∷ []) 1 true
 -- i: kill time 500: not popped at 500, popped at 501
 unfoldable pub readingI : List Reading
 readingI =
-    (popOf (record { queue = one; clock = 500 }) reads record { answer = told Done; found = false; key = noKey; queue = one })
-    ∷ (popOf (record { queue = one; clock = 501 }) reads record { answer = told Done; found = true; key = key; queue = pack [] 1 true })
+    (popOf (record { queue = one; clock = 500 }) reads record { answer = told Done; found = false; given = noKey; queue = one })
+    ∷ (popOf (record { queue = one; clock = 501 }) reads record { answer = told Done; found = true; given = key; queue = pack [] 1 true })
     ∷ []
 
 -- a slot and its item, told by their local port

@@ -1,41 +1,47 @@
 -- What this crate promises, in statements only; proofs/Promises has a line for each. Assumes nothing.
 use Prim.Native.Nat.{ℕ, _≤_}
 use mathlib.Core.Path.{_≡_}
-use mathlib.Core.Bool.{Bool, true, false, not}
+use mathlib.Core.Bool.{Bool, true}
 use mathlib.Core.List.{List, [], _∷_}
 use lib.Dec.{eqb}
 use lib.ListN.{length}
-use Rattle.defs.specs.Ladder.{recordAnswer}
-use Rattle.defs.specs.Limits.{maxKillq, isKillqLimit}
+use Rattle.defs.specs.Answer.{told}
 use Rattle.defs.specs.Pinned.{Pinned}
 use Rattle.defs.specs.Promises.{AnswersBy}
 use Rattle.defs.specs.Reading.{Hold}
-use Rattle.defs.specs.Look.{FlagLeft, FlagSays}
+use Rattle.defs.specs.Look.{FlagLeft}
+use Rattle.defs.specs.declared.answer.Answer.the-variants.{Done}
 use Rattle.conn_map.specs.Table.{chosen}
-use Rattle.conn_map.specs.Look.{PeekLeft}
-use Rattle.conn_map.specs.Queued.{QueuedLeft}
+use Rattle.queue.specs.Look.{PeekLeft, SyncedSays, EmptySays, FullSays}
+use Rattle.queue.specs.Queued.{QueuedLeft, pushRows}
+use Rattle.queue.specs.Promises as queues
 use Rattle.muxer_killq.specs.Item.{isAlike}
-use Rattle.muxer_killq.specs.Queue.{soundQ, items, pack, NewSays}
+use Rattle.muxer_killq.specs.Queue.{killq, soundQ, items, NewSays}
 use Rattle.muxer_killq.specs.Push.{PushIn, PushSays, turnsDown}
 use Rattle.muxer_killq.specs.Pop.{PeekSays, PopIn, PopLeft, PopSays}
 use Rattle.muxer_killq.specs.Sort.{sortByTime}
 use Rattle.muxer_killq.specs.Build.{BuildIn, BuildSays}
 use Rattle.muxer_killq.specs.Edges.{readingI, ties}
 use Rattle.muxer_killq.specs.declared.item.MuxerKillQItem.{MuxerKillQItem}
-use Rattle.muxer_killq.specs.declared.queue.MuxerKillQ.{MuxerKillQ}
+use Rattle.muxer_killq.specs.declared.killq.MuxerKillQ.{MuxerKillQ}
 
 -- the queue means its list: a list within the limit makes a sound queue that holds it, and a sound queue is the one that its items make
-pub record QueueIsItsList : Type 0 where
-  pub packed-sound : (l : List MuxerKillQItem) (limit : ℕ) (synced : Bool) → isKillqLimit limit ≡ true → length l ≤ limit → soundQ (pack l limit synced) ≡ true
-  pub packed-items : (l : List MuxerKillQItem) (limit : ℕ) (synced : Bool) → items (pack l limit synced) ≡ l
-  pub sound-packed : (q : MuxerKillQ) → length (q .q) ≡ maxKillq → soundQ q ≡ true → q ≡ pack (items q) (q .limit) (q .synced)
+abbrev pub QueueIsItsList : Type 0
+QueueIsItsList = queues.QueueIsItsList killq
+
+-- what the calls leave is sound: a constructor or a build that is done, a push or a pop of a sound queue
+pub record SoundStaysSound : Type 0 where
+  pub new : (limit : ℕ) (left : QueuedLeft MuxerKillQ) → NewSays limit left → left .answer ≡ told Done → soundQ (left .queue) ≡ true
+  pub from-conn-map : (i : BuildIn) (left : QueuedLeft MuxerKillQ) → BuildSays i left → left .answer ≡ told Done → soundQ (left .queue) ≡ true
+  pub push : (i : PushIn) (left : QueuedLeft MuxerKillQ) → PushSays i left → soundQ (i .queue) ≡ true → soundQ (left .queue) ≡ true
+  pub pop : (i : PopIn) (left : PopLeft) → PopSays i left → soundQ (i .queue) ≡ true → soundQ (left .queue) ≡ true
 
 -- `push` answers n exactly when row n's test holds and no lower row's: 1 not sound, 11 turned down
 abbrev pub PushAnswers : Type 0
 PushAnswers =
     (i : PushIn) (left : QueuedLeft MuxerKillQ) → PushSays i left
     → AnswersBy (left .answer)
-    (not (soundQ (i .queue)) ∷ false ∷ false ∷ false ∷ false ∷ false ∷ false ∷ false ∷ false ∷ false ∷ turnsDown (items (i .queue)) (i .queue .limit) (i .queue .synced) ∷ [])
+    (pushRows (soundQ (i .queue)) (turnsDown (items (i .queue)) (i .queue .limit) (i .queue .synced)))
 
 -- the first item of a list is not earlier than a time
 abbrev pub NotBefore : ℕ → List MuxerKillQItem → Type 0
@@ -70,6 +76,6 @@ pub record EachCallPinned : Type 0 where
   pub peek : Pinned MuxerKillQ (PeekLeft MuxerKillQItem) PeekSays
   pub pop : Pinned PopIn PopLeft PopSays
   pub eq : Pinned (MuxerKillQItem × MuxerKillQItem) Bool (λ i r. r ≡ isAlike (i .0) (i .1))
-  pub is-synced : Pinned MuxerKillQ FlagLeft (λ q left. FlagSays (recordAnswer (soundQ q)) (q .synced) left)
-  pub is-empty : Pinned MuxerKillQ FlagLeft (λ q left. FlagSays (recordAnswer (soundQ q)) (eqb (length (items q)) 0) left)
-  pub is-full : Pinned MuxerKillQ FlagLeft (λ q left. FlagSays (recordAnswer (soundQ q)) (eqb (length (items q)) (q .limit)) left)
+  pub is-synced : Pinned MuxerKillQ FlagLeft (SyncedSays killq)
+  pub is-empty : Pinned MuxerKillQ FlagLeft (EmptySays killq)
+  pub is-full : Pinned MuxerKillQ FlagLeft (FullSays killq)

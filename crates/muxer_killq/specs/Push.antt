@@ -4,43 +4,35 @@ use mathlib.Core.Path.{_≡_}
 use mathlib.Core.Bool.{Bool, false, not}
 use mathlib.Core.List.{List, [], _∷_, _++_}
 use lib.ListN.{length}
-use Rattle.defs.specs.Ladder.{recordAnswer}
 use Rattle.defs.specs.Choice.{when}
-use Rattle.defs.specs.Answer.{told}
 use Rattle.defs.specs.declared.answer.Answer.the-variants.{Done, NotQueued}
-use Rattle.conn_map.specs.Places.{hasRoom}
-use Rattle.conn_map.specs.Queued.{QueuedLeft, calledOf}
+use Rattle.queue.specs.Queued as queued
+use Rattle.queue.specs.Queued.{QueuedLeft, ListLeft, leaves, hasRoom}
 use Rattle.conn_map.specs.declared.key.ConnMapKey.{ConnMapKey}
-use Rattle.muxer_killq.specs.Queue.{soundQ, items, pack}
+use Rattle.muxer_killq.specs.Queue.{killq}
 use Rattle.muxer_killq.specs.declared.item.MuxerKillQItem.{MuxerKillQItem}
-use Rattle.muxer_killq.specs.declared.queue.MuxerKillQ.{MuxerKillQ}
-
-pub record PushIn : Type 0 where
-  pub queue : MuxerKillQ
-  pub key : ConnMapKey
-  pub «kill_time» : ℕ
+use Rattle.muxer_killq.specs.declared.killq.MuxerKillQ.{MuxerKillQ}
 
 -- a connection to be ended at a time
 abbrev pub itemAt : ConnMapKey → ℕ → MuxerKillQItem
 itemAt key time = record { «local_port» = key .«local_port»; «peer_port» = key .«peer_port»; «kill_time» = time }
 
 -- synced and not full: append, unsorted. Otherwise turned down, and unsyncs
-unfoldable pub pushList : List MuxerKillQItem → ℕ → Bool → MuxerKillQItem → QueuedLeft MuxerKillQ
-pushList l limit synced it =
-    when (hasRoom synced (length l) limit)
-    (record { answer = told Done; queue = pack (l ++ (it ∷ [])) limit synced })
-    (record { answer = told NotQueued; queue = pack l limit false })
+unfoldable pub pushList : MuxerKillQItem → List MuxerKillQItem → ℕ → Bool → ListLeft MuxerKillQItem
+pushList it l limit synced = when (hasRoom synced (length l) limit) (leaves Done (l ++ (it ∷ [])) synced) (leaves NotQueued l false)
 
 -- 01, answer 11: full or unsynced
 abbrev pub turnsDown : List MuxerKillQItem → ℕ → Bool → Bool
 turnsDown l limit synced = not (hasRoom synced (length l) limit)
 
+pub record PushIn : Type 0 where
+  pub queue : MuxerKillQ
+  pub key : ConnMapKey
+  pub «kill_time» : ℕ
+
 -- of a sound queue; a refusal changes nothing
-unfoldable pub pushOf : PushIn → QueuedLeft MuxerKillQ
-pushOf i =
-    calledOf (recordAnswer (soundQ (i .queue)))
-    (pushList (items (i .queue)) (i .queue .limit) (i .queue .synced) (itemAt (i .key) (i .«kill_time»)))
-    (i .queue)
+abbrev pub pushOf : PushIn → QueuedLeft MuxerKillQ
+pushOf i = queued.pushOf killq (pushList (itemAt (i .key) (i .«kill_time»))) (i .queue)
 
 -- THE STATEMENT of `push`
 abbrev pub PushSays : PushIn → QueuedLeft MuxerKillQ → Type 0

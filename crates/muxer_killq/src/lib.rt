@@ -3,12 +3,12 @@
 // builds it anew. Items stand in an array by value, front at place 0.
 mod build;
 mod item;
+mod killq;
 mod pop;
 mod push;
-mod queue;
 
 pub use item::MuxerKillQItem;
+pub use killq::MuxerKillQ;
+pub use killq::Queued;
 pub use pop::Peeked;
 pub use pop::Popped;
-pub use queue::MuxerKillQ;
-pub use queue::Queued;

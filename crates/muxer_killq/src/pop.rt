@@ -2,15 +2,15 @@
 ghost use mathlib.Core.Path.{_≡_};
 ghost use Prim.Native.Nat.{_<_};
 ghost use mathlib.Core.Bool.{true};
-ghost use lib.ListN.{drop};
 ghost use Rattle.defs.specs.Answer.{told};
-ghost use Rattle.conn_map.specs.Look.{PeekLeft};
+ghost use Rattle.queue.specs.Queue.{frontGone};
+ghost use Rattle.queue.specs.Look.{PeekLeft};
 ghost use Rattle.muxer_killq.specs.Item.{zeroItem};
-ghost use Rattle.muxer_killq.specs.Queue.{items, pack, soundQ};
-ghost use Rattle.muxer_killq.specs.Pop.{noKey, PeekSays, PopIn, PopLeft, PopSays};
+ghost use Rattle.muxer_killq.specs.Queue.{killq, soundQ};
+ghost use Rattle.muxer_killq.specs.Pop.{noKey, PeekSays, PopIn, PopSays};
 use crate::item::MuxerKillQItem;
 use crate::item::zero_item;
-use crate::queue::MuxerKillQ;
+use crate::killq::MuxerKillQ;
 use conn_map::ConnMapKey;
 use defs::Answer;
 
@@ -60,7 +60,7 @@ impl MuxerKillQ {
 
     // Only the front is looked at: an item behind it whose time has passed waits.
     pub fn pop(self, clock: u64) -> Popped
-        ensures { λ r. ⌜ PopSays (record { queue = self; clock = clock }) (record { answer = told (r .answer); found = r .found; key = r .key; queue = r .queue }) ⌝ }
+        ensures { λ r. ⌜ PopSays (record { queue = self; clock = clock }) (record { answer = told (r .answer); found = r .found; given = r .key; queue = r .queue }) ⌝ }
     {
         let none = no_key();
         let answer = defs::clock_answer(self.is_sound(), clock);
@@ -107,7 +107,7 @@ fn no_key() -> ConnMapKey
 // The queue without its front item: the others move up, and the place that becomes free gets `zero`.
 fn drop_front(queue: MuxerKillQ, zero: MuxerKillQItem) -> MuxerKillQ
     requires { ⌜ (soundQ queue ≡ true) × (0 < queue .len) × (zero ≡ zeroItem) ⌝ }
-    ensures { λ r. ⌜ r ≡ pack (drop 1 (items queue)) (queue .limit) (queue .synced) ⌝ }
+    ensures { λ r. ⌜ r ≡ frontGone killq queue ⌝ }
 {
     let mut next = queue;
     let last = queue.len - 1;

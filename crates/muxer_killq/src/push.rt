@@ -1,10 +1,10 @@
 // Pushing, behind all others whatever the time: a push that is turned down loses sync.
 ghost use Rattle.defs.specs.Answer.{told};
-ghost use Rattle.conn_map.specs.Queued.{QueuedLeft};
+ghost use Rattle.queue.specs.Queued.{QueuedLeft};
 ghost use Rattle.muxer_killq.specs.Push.{PushIn, PushSays};
 use crate::item::MuxerKillQItem;
-use crate::queue::MuxerKillQ;
-use crate::queue::Queued;
+use crate::killq::MuxerKillQ;
+use crate::killq::Queued;
 use conn_map::ConnMapKey;
 use defs::Answer;
 
@@ -19,7 +19,7 @@ impl MuxerKillQ {
                 queue: self,
             };
         };
-        let room = conn_map::has_room(self.synced, self.len, self.limit);
+        let room = queue::has_room(self.synced, self.len, self.limit);
         let mut queue = self;
         if room {
             let at = self.len;

@@ -4,14 +4,14 @@ use Rattle.defs.specs.Choice.{when}
 use Rattle.defs.specs.Answer.{isDone, whenDone}
 use Rattle.defs.specs.Limits.{isRxqLimit}
 use Rattle.defs.specs.Ladder.{doorOf, recordAnswer}
-use Rattle.conn_map.specs.Places.{all, soundPlaces, hasRoom}
-use Rattle.conn_map.specs.Queued.{calledOf}
-use Rattle.muxer_rxq.specs.Queue.{isZero, soundQ}
-use Rattle.muxer_rxq.specs.Push.{lastConn, evictList, pushList, pushOf}
-use Rattle.muxer_rxq.specs.Pop.{popList, popOf}
+use Rattle.queue.specs.Queue.{all, clearQ, soundQ}
+use Rattle.queue.specs.Queued.{hasRoom, pushOf}
+use Rattle.queue.specs.Pop.{popList, popOf}
+use Rattle.muxer_rxq.specs.Queue.{isZero}
+use Rattle.muxer_rxq.specs.Push.{lastConn, evictList, pushList}
 use Rattle.muxer_rxq.specs.Edges.{readingJ}
 use Rattle.muxer_rxq.specs.Promises.{EdgesHold}
 
 pub edges-hold : EdgesHold
-unfolding when isDone whenDone isRxqLimit doorOf all soundPlaces hasRoom calledOf recordAnswer isZero soundQ lastConn evictList pushList pushOf popList popOf readingJ
+unfolding when isDone whenDone isRxqLimit doorOf recordAnswer all clearQ soundQ hasRoom pushOf popList popOf isZero lastConn evictList pushList readingJ
 edges-hold = record { j = (refl, (refl, (refl, (refl, (refl, tt))))) }

@@ -1,4 +1,4 @@
--- Laws of `push`: the rearmost connection by a falling index, and each end of the call. Assumes nothing.
+-- Laws of `push`: the rearmost connection by a falling index, an eviction, and each end of the call. Assumes nothing.
 use Prim.Native.Nat.{ℕ, suc, _+_, _-_, _≤_, _<_}
 use mathlib.Core.Path.{_≡_, refl, ap, sym, _∙_}
 use mathlib.Core.Bool.{Bool, true, false, not, _&&_, _||_}
@@ -6,27 +6,22 @@ use mathlib.Core.List.{List, [], _∷_, _++_}
 use native.Mathlib.Omega.{arith}
 use borrow.Author.Tests.{ne-eqb, eq-eqb}
 use lib.Dec.{eqb}
-use lib.ListN.{length, getD, take, set}
+use lib.ListN.{length, getD, take, set, length-set}
 use lib.Seq.{take-suc, length-take-le}
-use Rattle.defs.specs.Ladder.{recordAnswer}
 use Rattle.defs.specs.Choice.{when}
 use Rattle.defs.specs.Answer.{told}
-use Rattle.defs.specs.Limits.{maxRxq}
-use Rattle.defs.specs.declared.answer.Answer.{Answer}
 use Rattle.defs.specs.declared.answer.Answer.the-variants.{Done, NotQueued}
-use Rattle.defs.proofs.ChoiceLaws.{when-true, when-false}
-use Rattle.defs.proofs.AnswerLaws.{NotDone}
-use Rattle.defs.proofs.LadderLaws.{by-first-row, record-passed}
-use Rattle.conn_map.specs.Places.{hasRoom}
-use Rattle.conn_map.specs.Queued.{QueuedLeft}
-use Rattle.conn_map.proofs.QueuedLaws.{called-kept, called-done, pushed-number}
-use Rattle.conn_map.proofs.PlacesLaws.{positive, room-is, room-within, appended, one-more, replaced, as-many}
-use Rattle.muxer_rxq.specs.Queue.{zeroItem, soundQ, items, pack}
-use Rattle.muxer_rxq.specs.Push.{lastConn, evictList, pushList, turnsDown, pushOf}
+use Rattle.defs.proofs.ChoiceLaws.{when-true, when-false, when-holds}
+use Rattle.queue.specs.Queued.{QueuedLeft, ListLeft, leaves, hasRoom, laid}
+use Rattle.queue.proofs.PlacesLaws.{positive}
+use Rattle.queue.proofs.QueueLaws.{Sound, sound-packed, replaced, items-within, append-within}
+use Rattle.queue.proofs.QueuedLaws.{push-numbers, push-sound}
+use Rattle.muxer_rxq.specs.Queue.{zeroItem, rxq, soundQ, items}
+use Rattle.muxer_rxq.specs.Push.{lastConn, evictList, pushList, PushIn, PushSays}
 use Rattle.muxer_rxq.specs.Promises.{PushAnswers}
-use Rattle.muxer_rxq.specs.declared.queue.MuxerRx.{MuxerRx}
-use Rattle.muxer_rxq.specs.declared.queue.MuxerRxQ.{MuxerRxQ}
-use Rattle.muxer_rxq.proofs.QueueLaws.{Sound, sound-says, packs, sound-packed}
+use Rattle.muxer_rxq.specs.declared.rxq.MuxerRx.{MuxerRx}
+use Rattle.muxer_rxq.specs.declared.rxq.MuxerRxQ.{MuxerRxQ}
+use Rattle.muxer_rxq.proofs.QueueLaws.{lawful}
 
 -- ---- the falling index
 
@@ -65,11 +60,11 @@ last-within (x ∷ l) = by (eqb (lastConn l) 0) (x .rst) (lastConn l) (last-with
 
 -- ---- an RST on the places
 
-module _ (q : MuxerRxQ) (rx : MuxerRx) (found : ℕ) (a : found ≡ lastConn (items q)) (s : Sound q) where
-  pub evict-none : found ≡ 0 → _≡_ {A = QueuedLeft MuxerRxQ} (record { answer = told NotQueued; queue = q }) (evictList (items q) (q .limit) (q .synced) rx)
+module _ (q : MuxerRxQ) (rx : MuxerRx) (found : ℕ) (a : found ≡ lastConn (items q)) (s : Sound rxq q) where
+  pub evict-none : found ≡ 0 → _≡_ {A = QueuedLeft MuxerRxQ} (record { answer = told NotQueued; queue = q }) (laid rxq q (evictList rx (items q) (q .synced)))
   unfolding evictList
   evict-none z =
-      ap (λ (x : MuxerRxQ). record { answer = told NotQueued; queue = x }) (sound-packed q (q .synced) s) ∙ sym (when-true _ _ _ (eq-eqb _ 0 (sym a ∙ z)))
+      ap (λ (x : MuxerRxQ). record { answer = told NotQueued; queue = x }) (sound-packed rxq lawful q s) ∙ ap (laid rxq q) (sym (when-true _ _ _ (eq-eqb _ 0 (sym a ∙ z))))
 
   module _ (z : found ≡ 0 → ⊥) where
     pub evict-at : found - 1 < q .len
@@ -77,66 +72,47 @@ module _ (q : MuxerRxQ) (rx : MuxerRx) (found : ℕ) (a : found ≡ lastConn (it
 
     pub evict-some : _≡_ {A = QueuedLeft MuxerRxQ}
         (record { answer = told Done; queue = record { q = set (q .q) (found - 1) rx; len = q .len; limit = q .limit; synced = false } })
-        (evictList (items q) (q .limit) (q .synced) rx)
+        (laid rxq q (evictList rx (items q) (q .synced)))
     unfolding evictList
     evict-some =
-        ap (λ (x : MuxerRxQ). record { answer = told Done; queue = x })
-        (packs _ (set (items q) (found - 1) rx) _ (q .limit) false
-        (as-many maxRxq zeroItem (q .q) (q .len) (q .limit) s (found - 1) rx)
-        (replaced maxRxq zeroItem (q .q) (q .len) (q .limit) s (found - 1) rx evict-at))
-        ∙ ap (λ (k : ℕ). record { answer = told Done; queue = pack (set (items q) (k - 1) rx) (q .limit) false }) a
-        ∙ sym (when-false _ _ _ (ne-eqb _ 0 (λ y. z (a ∙ y))))
+        ap (λ (x : MuxerRxQ). record { answer = told Done; queue = x }) (replaced q s (found - 1) rx false evict-at)
+        ∙ ap (λ (k : ℕ). laid rxq q (leaves Done (set (items q) (k - 1) rx) false)) a
+        ∙ ap (laid rxq q) (sym (when-false _ _ _ (ne-eqb _ 0 (λ y. z (a ∙ y)))))
 
--- ---- the ends of the call
+-- ---- the ends of the call, on the list
 
-module _ (q : MuxerRxQ) (rx : MuxerRx) (a : Answer) (e : a ≡ recordAnswer (soundQ q)) where
-  pub push-kept : NotDone a → _≡_ {A = QueuedLeft MuxerRxQ} (record { answer = told a; queue = q }) (pushOf (record { queue = q; rx = rx }))
-  unfolding pushOf
-  push-kept k = called-kept a _ e q _ k
+module _ (rx : MuxerRx) (l : List MuxerRx) (limit : ℕ) (synced : Bool) where
+  pub appends : hasRoom synced (length l) limit ≡ true → pushList rx l limit synced ≡ leaves Done (l ++ (rx ∷ [])) synced
+  unfolding pushList
+  appends t = when-true _ _ _ t
 
-  module _ (d : a ≡ Done) (n : length (q .q) ≡ maxRxq) where
-    pub passed : soundQ q ≡ true
-    passed = record-passed a (soundQ q) e d
+  pub turned : rx .rst ≡ false → hasRoom synced (length l) limit ≡ false → pushList rx l limit synced ≡ leaves NotQueued l false
+  unfolding pushList
+  turned r t = when-false _ _ _ t ∙ when-false _ _ _ r
 
-    pub sound : Sound q
-    sound = sound-says q n passed
+  pub evicts : rx .rst ≡ true → hasRoom synced (length l) limit ≡ false → pushList rx l limit synced ≡ evictList rx l synced
+  unfolding pushList
+  evicts r t = when-false _ _ _ t ∙ when-true _ _ _ r
 
-    by-list : pushOf (record { queue = q; rx = rx }) ≡ pushList (items q) (q .limit) (q .synced) rx
-    unfolding pushOf
-    by-list = called-done a _ e q _ d
+  -- what is left is within the limit
+  push-within : length l ≤ limit → length (pushList rx l limit synced .list) ≤ limit
+  unfolding pushList evictList
+  push-within h =
+      when-holds (λ (o : ListLeft MuxerRx). length (o .list) ≤ limit) (hasRoom synced (length l) limit) _ _
+      (λ t. append-within l rx limit synced t)
+      (λ t.
+      when-holds (λ (o : ListLeft MuxerRx). length (o .list) ≤ limit) (rx .rst) _ _
+      (λ r. when-holds (λ (o : ListLeft MuxerRx). length (o .list) ≤ limit) (eqb (lastConn l) 0) _ _ (λ n. h) (λ n. omega (arith, length-set l (lastConn l - 1) rx)))
+      (λ r. h))
 
-    pub push-appends : hasRoom (q .synced) (q .len) (q .limit) ≡ true
-        → _≡_ {A = QueuedLeft MuxerRxQ}
-        (record { answer = told a; queue = record { q = set (q .q) (q .len) rx; len = q .len + 1; limit = q .limit; synced = q .synced } })
-        (pushOf (record { queue = q; rx = rx }))
-    unfolding pushList
-    push-appends t =
-        let s = sound in
-        rw d
-        (ap (λ (x : MuxerRxQ). record { answer = told Done; queue = x })
-        (packs _ (items q ++ (rx ∷ [])) _ (q .limit) (q .synced)
-        (one-more maxRxq zeroItem (q .q) (q .len) (q .limit) s rx)
-        (appended maxRxq zeroItem (q .q) (q .len) (q .limit) s rx (room-within maxRxq zeroItem (q .q) (q .len) (q .limit) s (q .synced) t)))
-        ∙ sym (by-list ∙ when-true _ _ _ (room-is maxRxq zeroItem (q .q) (q .len) (q .limit) s (q .synced) true t)))
-
-    module _ (t : hasRoom (q .synced) (q .len) (q .limit) ≡ false) where
-      full : hasRoom (q .synced) (length (items q)) (q .limit) ≡ false
-      full = room-is maxRxq zeroItem (q .q) (q .len) (q .limit) sound (q .synced) false t
-
-      pub push-turned : rx .rst ≡ false
-          → _≡_ {A = QueuedLeft MuxerRxQ} (record { answer = told NotQueued; queue = record { q = q .q; len = q .len; limit = q .limit; synced = false } }) (pushOf (record { queue = q; rx = rx }))
-      unfolding pushList
-      push-turned r =
-          ap (λ (x : MuxerRxQ). record { answer = told NotQueued; queue = x }) (sound-packed q false sound) ∙ sym (by-list ∙ when-false _ _ _ full ∙ when-false _ _ _ r)
-
-      pub push-evicts : (x : QueuedLeft MuxerRxQ) → rx .rst ≡ true → x ≡ evictList (items q) (q .limit) (q .synced) rx → x ≡ pushOf (record { queue = q; rx = rx })
-      unfolding pushList
-      push-evicts x r f = f ∙ sym (by-list ∙ when-false _ _ _ full ∙ when-true _ _ _ r)
+pub push-stays-sound : (i : PushIn) (left : QueuedLeft MuxerRxQ) → PushSays i left → soundQ (i .queue) ≡ true → soundQ (left .queue) ≡ true
+push-stays-sound i left e s =
+    push-sound rxq left lawful (pushList (i .rx)) (i .queue) e s (push-within (i .rx) (items (i .queue)) (i .queue .limit) (i .queue .synced) (items-within rxq (i .queue) s))
 
 -- ---- which number
 
-by-tests : (room rst none : Bool) (a b c d : QueuedLeft MuxerRxQ) → a .answer .number ≡ 0 → b .answer .number ≡ 11 → c .answer .number ≡ 0 → d .answer .number ≡ 11
-    → when room a (when rst (when none b c) d) .answer .number ≡ when (not room && (not rst || none)) 11 0
+by-tests : (room rst none : Bool) (a b c d : ListLeft MuxerRx) → told (a .answer) .number ≡ 0 → told (b .answer) .number ≡ 11 → told (c .answer) .number ≡ 0 → told (d .answer) .number ≡ 11
+    → told (when room a (when rst (when none b c) d) .answer) .number ≡ when (not room && (not rst || none)) 11 0
 unfolding when
 by-tests true rst none a b c d e f g h = e
 by-tests false true true a b c d e f g h = f
@@ -144,10 +120,7 @@ by-tests false true false a b c d e f g h = g
 by-tests false false none a b c d e f g h = h
 
 pub push-answers : PushAnswers
-unfolding pushOf pushList evictList
+unfolding pushList evictList
 push-answers i left says =
     let q = i .queue in
-    by-first-row (left .answer) _
-    (ap (λ (o : QueuedLeft MuxerRxQ). o .answer .number) says
-    ∙ pushed-number (soundQ q) (turnsDown (items q) (q .limit) (q .synced) (i .rx)) _ q
-    (by-tests (hasRoom (q .synced) (length (items q)) (q .limit)) (i .rx .rst) (eqb (lastConn (items q)) 0) _ _ _ _ refl refl refl refl))
+    push-numbers rxq (pushList (i .rx)) q _ left says (by-tests (hasRoom (q .synced) (length (items q)) (q .limit)) (i .rx .rst) (eqb (lastConn (items q)) 0) _ _ _ _ refl refl refl refl)

@@ -1,8 +1,8 @@
 -- `from_conn_map` (01, "The two queues"), as a function of the list of slots. Assumes nothing.
 use Prim.Native.Nat.{ℕ}
 use mathlib.Core.Path.{_≡_}
-use mathlib.Core.Bool.{Bool, true, false, not, _&&_}
-use mathlib.Core.List.{List, []}
+use mathlib.Core.Bool.{Bool, false, not, _&&_}
+use mathlib.Core.List.{List}
 use lib.Dec.{leb, eqb}
 use lib.ListN.{length, take}
 use Rattle.defs.specs.Ladder.{recordAnswer}
@@ -10,10 +10,10 @@ use Rattle.defs.specs.Limits.{isRxqLimit}
 use Rattle.defs.specs.declared.answer.Answer.{Answer}
 use Rattle.conn_map.specs.Table.{Slot, slotsOf, gathered, soundTable}
 use Rattle.conn_map.specs.declared.key.ConnMapKey.{ConnMapKey}
-use Rattle.conn_map.specs.Queued.{QueuedLeft, madeOf}
-use Rattle.muxer_rxq.specs.Queue.{pack}
-use Rattle.muxer_rxq.specs.declared.queue.MuxerRx.{MuxerRx}
-use Rattle.muxer_rxq.specs.declared.queue.MuxerRxQ.{MuxerRxQ}
+use Rattle.queue.specs.Queued.{QueuedLeft, madeOf}
+use Rattle.muxer_rxq.specs.Queue.{rxq, pack}
+use Rattle.muxer_rxq.specs.declared.rxq.MuxerRx.{MuxerRx}
+use Rattle.muxer_rxq.specs.declared.rxq.MuxerRxQ.{MuxerRxQ}
 
 -- a used slot with RX pending
 abbrev pub isPending : Slot → Bool
@@ -47,7 +47,7 @@ buildAnswer i = recordAnswer (isRxqLimit (i .limit) && soundTable (i .ports) (i 
 
 -- a refused build is an empty, synced queue of limit 0
 unfoldable pub buildOf : BuildIn → QueuedLeft MuxerRxQ
-buildOf i = madeOf (buildAnswer i) (builtFrom (i .limit) (slotsOf (i .ports) (i .used) (i .pending))) (pack [] 0 true)
+buildOf i = madeOf rxq (buildAnswer i) (builtFrom (i .limit) (slotsOf (i .ports) (i .used) (i .pending)))
 
 -- THE STATEMENT of `from_conn_map`
 abbrev pub BuildSays : BuildIn → QueuedLeft MuxerRxQ → Type 0

@@ -5,12 +5,12 @@ use mathlib.Core.List.{List, [], _∷_}
 use Rattle.defs.specs.Answer.{told}
 use Rattle.defs.specs.Reading.{Reading, _reads_}
 use Rattle.defs.specs.declared.answer.Answer.the-variants.{Done, NotQueued}
-use Rattle.conn_map.specs.Queued.{QueuedLeft}
+use Rattle.queue.specs.Queued.{QueuedLeft}
 use Rattle.muxer_rxq.specs.Queue.{pack}
 use Rattle.muxer_rxq.specs.Push.{pushOf}
 use Rattle.muxer_rxq.specs.Pop.{PopLeft, popOf}
-use Rattle.muxer_rxq.specs.declared.queue.MuxerRx.{MuxerRx}
-use Rattle.muxer_rxq.specs.declared.queue.MuxerRxQ.{MuxerRxQ}
+use Rattle.muxer_rxq.specs.declared.rxq.MuxerRx.{MuxerRx}
+use Rattle.muxer_rxq.specs.declared.rxq.MuxerRxQ.{MuxerRxQ}
 
 -- a connection and an RST, told by their local port
 abbrev conn : ℕ → MuxerRx
@@ -37,6 +37,6 @@ readingJ =
     (afterR reads record { answer = told Done; queue = two (conn 1) (rst 8) false })
     ∷ (afterS reads record { answer = told Done; queue = two (rst 9) (rst 8) false })
     ∷ (pushOf (record { queue = afterS .queue; rx = rst 10 }) reads record { answer = told NotQueued; queue = two (rst 9) (rst 8) false })
-    ∷ (popped reads record { answer = told Done; found = true; item = rst 9; queue = pack (rst 8 ∷ []) 2 false })
+    ∷ (popped reads record { answer = told Done; found = true; given = rst 9; queue = pack (rst 8 ∷ []) 2 false })
     ∷ (pushOf (record { queue = popped .queue; rx = rst 10 }) reads record { answer = told NotQueued; queue = pack (rst 8 ∷ []) 2 false })
     ∷ []

@@ -1,37 +1,27 @@
 -- `peek` and `pop` (01, "The two queues"). Assumes nothing.
-use Prim.Native.Nat.{ℕ}
 use mathlib.Core.Path.{_≡_}
-use mathlib.Core.Bool.{Bool, true, false}
-use mathlib.Core.List.{List, [], _∷_}
+use mathlib.Core.Bool.{Bool, true}
 use Rattle.defs.specs.Ladder.{recordAnswer}
-use Rattle.defs.specs.Answer.{Told, told, whenDone}
-use Rattle.defs.specs.declared.answer.Answer.the-variants.{Done}
-use Rattle.conn_map.specs.Look.{PeekLeft, peekOf}
-use Rattle.muxer_rxq.specs.Queue.{zeroItem, soundQ, items, pack}
-use Rattle.muxer_rxq.specs.declared.queue.MuxerRx.{MuxerRx}
-use Rattle.muxer_rxq.specs.declared.queue.MuxerRxQ.{MuxerRxQ}
+use Rattle.queue.specs.Look.{PeekLeft, peekOf}
+use Rattle.queue.specs.Pop as pops
+use Rattle.muxer_rxq.specs.Queue.{zeroItem, rxq, soundQ}
+use Rattle.muxer_rxq.specs.declared.rxq.MuxerRx.{MuxerRx}
+use Rattle.muxer_rxq.specs.declared.rxq.MuxerRxQ.{MuxerRxQ}
 
 -- THE STATEMENT of `peek`
 abbrev pub PeekSays : MuxerRxQ → PeekLeft MuxerRx → Type 0
-PeekSays q left = left ≡ peekOf zeroItem (soundQ q) (items q)
+PeekSays q left = left ≡ peekOf rxq q
 
-pub record PopLeft : Type 0 where
-  pub answer : Told
-  pub found : Bool
-  pub item : MuxerRx
-  pub queue : MuxerRxQ
+abbrev pub PopLeft : Type 0
+PopLeft = pops.PopLeft MuxerRx MuxerRxQ
 
--- the front item goes, sync stays; with nothing to give nothing changes
-unfoldable pub popList : List MuxerRx → ℕ → Bool → PopLeft
-popList [] limit synced = record { answer = told Done; found = false; item = zeroItem; queue = pack [] limit synced }
-popList (x ∷ l) limit synced = record { answer = told Done; found = true; item = x; queue = pack l limit synced }
+-- the front item goes, whatever it is
+abbrev pub isDue : MuxerRx → Bool
+isDue it = true
 
--- a refusal changes nothing
-unfoldable pub popOf : MuxerRxQ → PopLeft
-popOf q =
-    whenDone (recordAnswer (soundQ q))
-    (popList (items q) (q .limit) (q .synced))
-    (record { answer = told (recordAnswer (soundQ q)); found = false; item = zeroItem; queue = q })
+-- and is given itself; the zero item where there is none
+abbrev pub popOf : MuxerRxQ → PopLeft
+popOf q = pops.popOf rxq zeroItem isDue (λ it. it) (recordAnswer (soundQ q)) q
 
 -- THE STATEMENT of `pop`
 abbrev pub PopSays : MuxerRxQ → PopLeft → Type 0

@@ -1,38 +1,41 @@
 -- What this crate promises, in statements only; proofs/Promises has a line for each. Assumes nothing.
-use Prim.Native.Nat.{ℕ, _≤_}
+use Prim.Native.Nat.{ℕ}
 use mathlib.Core.Path.{_≡_}
-use mathlib.Core.Bool.{Bool, true, false, not}
-use mathlib.Core.List.{List, [], _∷_}
-use lib.Dec.{eqb}
-use lib.ListN.{length}
-use Rattle.defs.specs.Limits.{maxRxq, isRxqLimit}
+use mathlib.Core.Bool.{true}
+use Rattle.defs.specs.Answer.{told}
 use Rattle.defs.specs.Pinned.{Pinned}
 use Rattle.defs.specs.Promises.{AnswersBy}
 use Rattle.defs.specs.Reading.{Hold}
-use Rattle.defs.specs.Ladder.{recordAnswer}
-use Rattle.defs.specs.Look.{FlagLeft, FlagSays, LenLeft, LenSays}
-use Rattle.conn_map.specs.Look.{PeekLeft}
-use Rattle.conn_map.specs.Queued.{QueuedLeft}
-use Rattle.muxer_rxq.specs.Queue.{soundQ, items, pack, NewSays}
+use Rattle.defs.specs.Look.{FlagLeft, LenLeft}
+use Rattle.defs.specs.declared.answer.Answer.the-variants.{Done}
+use Rattle.queue.specs.Look.{PeekLeft, SyncedSays, EmptySays, FullSays, LengthSays}
+use Rattle.queue.specs.Queued.{QueuedLeft, pushRows}
+use Rattle.queue.specs.Promises as queues
+use Rattle.muxer_rxq.specs.Queue.{rxq, soundQ, items, NewSays}
 use Rattle.muxer_rxq.specs.Push.{PushIn, PushSays, turnsDown}
 use Rattle.muxer_rxq.specs.Pop.{PeekSays, PopLeft, PopSays}
 use Rattle.muxer_rxq.specs.Build.{BuildIn, BuildSays}
 use Rattle.muxer_rxq.specs.Edges.{readingJ}
-use Rattle.muxer_rxq.specs.declared.queue.MuxerRx.{MuxerRx}
-use Rattle.muxer_rxq.specs.declared.queue.MuxerRxQ.{MuxerRxQ}
+use Rattle.muxer_rxq.specs.declared.rxq.MuxerRx.{MuxerRx}
+use Rattle.muxer_rxq.specs.declared.rxq.MuxerRxQ.{MuxerRxQ}
 
 -- the queue means its list: a list within the limit makes a sound queue that holds it, and a sound queue is the one that its items make
-pub record QueueIsItsList : Type 0 where
-  pub packed-sound : (l : List MuxerRx) (limit : ℕ) (synced : Bool) → isRxqLimit limit ≡ true → length l ≤ limit → soundQ (pack l limit synced) ≡ true
-  pub packed-items : (l : List MuxerRx) (limit : ℕ) (synced : Bool) → items (pack l limit synced) ≡ l
-  pub sound-packed : (q : MuxerRxQ) → length (q .q) ≡ maxRxq → soundQ q ≡ true → q ≡ pack (items q) (q .limit) (q .synced)
+abbrev pub QueueIsItsList : Type 0
+QueueIsItsList = queues.QueueIsItsList rxq
+
+-- what the calls leave is sound: a constructor or a build that is done, a push or a pop of a sound queue
+pub record SoundStaysSound : Type 0 where
+  pub new : (limit : ℕ) (left : QueuedLeft MuxerRxQ) → NewSays limit left → left .answer ≡ told Done → soundQ (left .queue) ≡ true
+  pub from-conn-map : (i : BuildIn) (left : QueuedLeft MuxerRxQ) → BuildSays i left → left .answer ≡ told Done → soundQ (left .queue) ≡ true
+  pub push : (i : PushIn) (left : QueuedLeft MuxerRxQ) → PushSays i left → soundQ (i .queue) ≡ true → soundQ (left .queue) ≡ true
+  pub pop : (q : MuxerRxQ) (left : PopLeft) → PopSays q left → soundQ q ≡ true → soundQ (left .queue) ≡ true
 
 -- `push` answers n exactly when row n's test holds and no lower row's: 1 not sound, 11 turned down
 abbrev pub PushAnswers : Type 0
 PushAnswers =
     (i : PushIn) (left : QueuedLeft MuxerRxQ) → PushSays i left
     → AnswersBy (left .answer)
-    (not (soundQ (i .queue)) ∷ false ∷ false ∷ false ∷ false ∷ false ∷ false ∷ false ∷ false ∷ false ∷ turnsDown (items (i .queue)) (i .queue .limit) (i .queue .synced) (i .rx) ∷ [])
+    (pushRows (soundQ (i .queue)) (turnsDown (items (i .queue)) (i .queue .limit) (i .queue .synced) (i .rx)))
 
 -- 01's readings at the edges of this crate
 pub record EdgesHold : Type 0 where
@@ -45,7 +48,7 @@ pub record EachCallPinned : Type 0 where
   pub push : Pinned PushIn (QueuedLeft MuxerRxQ) PushSays
   pub peek : Pinned MuxerRxQ (PeekLeft MuxerRx) PeekSays
   pub pop : Pinned MuxerRxQ PopLeft PopSays
-  pub is-synced : Pinned MuxerRxQ FlagLeft (λ q left. FlagSays (recordAnswer (soundQ q)) (q .synced) left)
-  pub len : Pinned MuxerRxQ LenLeft (λ q left. LenSays (recordAnswer (soundQ q)) (length (items q)) left)
-  pub is-empty : Pinned MuxerRxQ FlagLeft (λ q left. FlagSays (recordAnswer (soundQ q)) (eqb (length (items q)) 0) left)
-  pub is-full : Pinned MuxerRxQ FlagLeft (λ q left. FlagSays (recordAnswer (soundQ q)) (eqb (length (items q)) (q .limit)) left)
+  pub is-synced : Pinned MuxerRxQ FlagLeft (SyncedSays rxq)
+  pub len : Pinned MuxerRxQ LenLeft (LengthSays rxq)
+  pub is-empty : Pinned MuxerRxQ FlagLeft (EmptySays rxq)
+  pub is-full : Pinned MuxerRxQ FlagLeft (FullSays rxq)

@@ -6,18 +6,23 @@ ghost use Rattle.defs.specs.Answer.{told};
 ghost use Rattle.defs.specs.Limits.{maxRxq};
 ghost use Rattle.conn_map.specs.Table.{slotsOf};
 ghost use Rattle.conn_map.specs.Key.{keyOf};
-ghost use Rattle.conn_map.specs.Queued.{QueuedLeft};
+ghost use Rattle.queue.specs.Queued.{QueuedLeft};
 ghost use Rattle.muxer_rxq.specs.Build.{connTo, builtFrom, BuildIn, BuildSays, marked};
-use crate::queue::MuxerRx;
-use crate::queue::MuxerRxQ;
-use crate::queue::Queued;
-use crate::queue::empty;
+use crate::rxq::MuxerRx;
+use crate::rxq::MuxerRxQ;
+use crate::rxq::Queued;
+use crate::rxq::empty;
 use defs::Answer;
 use defs::limits;
 
 impl MuxerRxQ {
     // The queue of a table: `used` and `pending` are 0 for no.
-    pub fn from_conn_map(limit: usize, ports: &[u64], used: &[u8], pending: &[u8]) -> Queued
+    pub fn from_conn_map<'a>(
+        limit: usize,
+        ports: &'a [u64],
+        used: &'a [u8],
+        pending: &'a [u8],
+    ) -> Queued
         ensures { λ r. ⌜ BuildSays (record { limit = limit; ports = now (ports .entry); used = now (used .entry); pending = now (pending .entry) }) (record { answer = told (r .answer); queue = r .queue }) ⌝ }
     {
         let limited = limits::is_rxq_limit(limit);

@@ -4,10 +4,10 @@
 mod build;
 mod pop;
 mod push;
-mod queue;
+mod rxq;
 
 pub use pop::Peeked;
 pub use pop::Popped;
-pub use queue::MuxerRx;
-pub use queue::MuxerRxQ;
-pub use queue::Queued;
+pub use rxq::MuxerRx;
+pub use rxq::MuxerRxQ;
+pub use rxq::Queued;

@@ -2,14 +2,14 @@
 ghost use mathlib.Core.Path.{_≡_};
 ghost use Prim.Native.Nat.{_<_};
 ghost use mathlib.Core.Bool.{true};
-ghost use lib.ListN.{drop};
 ghost use Rattle.defs.specs.Answer.{told};
-ghost use Rattle.conn_map.specs.Look.{PeekLeft};
-ghost use Rattle.muxer_rxq.specs.Queue.{items, pack, soundQ, zeroItem};
-ghost use Rattle.muxer_rxq.specs.Pop.{PeekSays, PopLeft, PopSays};
-use crate::queue::MuxerRx;
-use crate::queue::MuxerRxQ;
-use crate::queue::zero_item;
+ghost use Rattle.queue.specs.Queue.{frontGone};
+ghost use Rattle.queue.specs.Look.{PeekLeft};
+ghost use Rattle.muxer_rxq.specs.Queue.{rxq, soundQ, zeroItem};
+ghost use Rattle.muxer_rxq.specs.Pop.{PeekSays, PopSays};
+use crate::rxq::MuxerRx;
+use crate::rxq::MuxerRxQ;
+use crate::rxq::zero_item;
 use defs::Answer;
 
 // `item` is the zero item where none was found.
@@ -56,7 +56,7 @@ impl MuxerRxQ {
 
     // Sync is as it was, also where the queue has room again: only a build restores it.
     pub fn pop(self) -> Popped
-        ensures { λ r. ⌜ PopSays self (record { answer = told (r .answer); found = r .found; item = r .item; queue = r .queue }) ⌝ }
+        ensures { λ r. ⌜ PopSays self (record { answer = told (r .answer); found = r .found; given = r .item; queue = r .queue }) ⌝ }
     {
         let none = zero_item();
         let answer = defs::record_answer(self.is_sound());
@@ -89,7 +89,7 @@ impl MuxerRxQ {
 // The queue without its front item: the others move up, and the place that becomes free gets `zero`.
 fn drop_front(queue: MuxerRxQ, zero: MuxerRx) -> MuxerRxQ
     requires { ⌜ (soundQ queue ≡ true) × (0 < queue .len) × (zero ≡ zeroItem) ⌝ }
-    ensures { λ r. ⌜ r ≡ pack (drop 1 (items queue)) (queue .limit) (queue .synced) ⌝ }
+    ensures { λ r. ⌜ r ≡ frontGone rxq queue ⌝ }
 {
     let mut next = queue;
     let last = queue.len - 1;

@@ -5,12 +5,12 @@ ghost use Prim.Native.Nat.{_≤_};
 ghost use mathlib.Core.Bool.{true};
 ghost use Rattle.defs.specs.Answer.{told};
 ghost use Rattle.defs.specs.Limits.{maxRxq};
-ghost use Rattle.conn_map.specs.Queued.{QueuedLeft};
-ghost use Rattle.muxer_rxq.specs.Queue.{items, soundQ};
+ghost use Rattle.queue.specs.Queued.{QueuedLeft, laid};
+ghost use Rattle.muxer_rxq.specs.Queue.{rxq, items, soundQ};
 ghost use Rattle.muxer_rxq.specs.Push.{lastConn, evictList, PushIn, PushSays};
-use crate::queue::MuxerRx;
-use crate::queue::MuxerRxQ;
-use crate::queue::Queued;
+use crate::rxq::MuxerRx;
+use crate::rxq::MuxerRxQ;
+use crate::rxq::Queued;
 use defs::Answer;
 
 impl MuxerRxQ {
@@ -24,7 +24,7 @@ impl MuxerRxQ {
                 queue: self,
             };
         };
-        let room = conn_map::has_room(self.synced, self.len, self.limit);
+        let room = queue::has_room(self.synced, self.len, self.limit);
         if room {
             let at = self.len;
             let mut queue = self;
@@ -47,7 +47,7 @@ impl MuxerRxQ {
 // An RST takes the place of the rearmost connection; where there is none it is turned down.
 fn evict(queue: MuxerRxQ, rst: MuxerRx) -> Queued
     requires { ⌜ soundQ queue ≡ true ⌝ }
-    ensures { λ r. ⌜ _≡_ {A = QueuedLeft MuxerRxQ} (record { answer = told (r .answer); queue = r .queue }) (evictList (items queue) (queue .limit) (queue .synced) rst) ⌝ }
+    ensures { λ r. ⌜ _≡_ {A = QueuedLeft MuxerRxQ} (record { answer = told (r .answer); queue = r .queue }) (laid rxq queue (evictList rst (items queue) (queue .synced))) ⌝ }
 {
     let found = rearmost(queue);
     if found == 0 {

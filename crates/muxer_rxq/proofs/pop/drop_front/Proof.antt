@@ -5,10 +5,10 @@ use native.Mathlib.Omega.{arith}
 use borrow.Author.Needs.{needs}
 use lib.ListN.{length, take, drop}
 use Rattle.defs.specs.Limits.{maxRxq}
-use Rattle.conn_map.proofs.PlacesLaws.{long, shift-more}
-use Rattle.muxer_rxq.specs.Queue.{zeroItem}
-use Rattle.muxer_rxq.proofs.QueueLaws.{Sound, sound-says}
-use Rattle.muxer_rxq.proofs.PopLaws.{front-dropped}
+use Rattle.queue.proofs.PlacesLaws.{long, shift-more}
+use Rattle.queue.proofs.QueueLaws.{Sound, sound-says, front-dropped}
+use Rattle.muxer_rxq.specs.Queue.{zeroItem, rxq}
+use Rattle.muxer_rxq.proofs.QueueLaws.{lawful}
 use Rattle.muxer_rxq.proofs.pop.drop_front.Statement.{statement}
 use Rattle.muxer_rxq.proofs.pop.drop_front.Tie as tie
 
@@ -23,8 +23,8 @@ abbrev μ-loop : tie.MeasureT-loop
 whole : (c : tie.Start Inv-loop μ-loop) → length (c .args .t1 .q) ≡ maxRxq
 whole c = search (needs, long)
 
-sound : (c : tie.Start Inv-loop μ-loop) → Sound (c .args .t1)
-sound c = sound-says (c .args .t1) (whole c) (c .pre .0)
+sound : (c : tie.Start Inv-loop μ-loop) → Sound rxq (c .args .t1)
+sound c = sound-says rxq lawful (c .args .t1) (whole c) (c .pre .0)
 
 sub-last : tie.Need-sub-last Inv-loop μ-loop
 sub-last c = search needs
@@ -71,7 +71,7 @@ returns : tie.Need-returns Inv-loop μ-loop
 returns c =
     let s = c .before .before in
     let e : c .before .loop .i ≡ s .args .t1 .len - 1 = omega arith in
-    rw (c .before .loop .inv .2, e) (front-dropped (s .args .t1) _ (s .pre .2) (sound s) (s .pre .1))
+    rw (c .before .loop .inv .2, e) (front-dropped (s .args .t1) (sound s) (s .pre .1) _ (s .pre .2))
 
 pub drop-front-spec : {M : Type 1} → statement M
 drop-front-spec = tie.close (tie.spec Inv-loop μ-loop sub-last loop-holds add-it mul-it element-copy-out-it mul-it-2 element-set-from-it add-i loop-less loop-again mul-zero element-set-from-zero returns)

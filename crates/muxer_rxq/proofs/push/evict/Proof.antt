@@ -4,14 +4,16 @@ use native.Mathlib.Omega.{arith}
 use borrow.Author.Needs.{needs}
 use lib.ListN.{length}
 use Rattle.defs.specs.Limits.{maxRxq}
-use Rattle.conn_map.proofs.PlacesLaws.{long}
-use Rattle.muxer_rxq.proofs.QueueLaws.{Sound, sound-says}
+use Rattle.queue.proofs.PlacesLaws.{long}
+use Rattle.queue.proofs.QueueLaws.{Sound, sound-says}
+use Rattle.muxer_rxq.specs.Queue.{rxq}
+use Rattle.muxer_rxq.proofs.QueueLaws.{lawful}
 use Rattle.muxer_rxq.proofs.PushLaws.{evict-none, evict-some, evict-at}
 use Rattle.muxer_rxq.proofs.push.evict.Statement.{statement}
 use Rattle.muxer_rxq.proofs.push.evict.Tie as tie
 
-sound : (c : tie.Start) → Sound (c .args .queue)
-sound c = let n : length (c .args .queue .q) ≡ maxRxq = search (needs, long) in sound-says (c .args .queue) n (c .pre)
+sound : (c : tie.Start) → Sound rxq (c .args .queue)
+sound c = let n : length (c .args .queue .q) ≡ maxRxq = search (needs, long) in sound-says rxq lawful (c .args .queue) n (c .pre)
 
 -- the place that is rewritten is one of the array's
 at-place : (c : tie.Else1) → c .before .rearmost .result - 1 < maxRxq

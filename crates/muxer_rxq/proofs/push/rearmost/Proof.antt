@@ -5,7 +5,7 @@ use borrow.Author.Needs.{needs}
 use borrow.Author.Tests.{not-true, not-false}
 use lib.ListN.{length, take}
 use Rattle.defs.specs.Limits.{maxRxq}
-use Rattle.conn_map.proofs.PlacesLaws.{long}
+use Rattle.queue.proofs.PlacesLaws.{long}
 use Rattle.muxer_rxq.specs.Push.{lastConn}
 use Rattle.muxer_rxq.proofs.PushLaws.{rear-rst, rear-conn, rear-none}
 use Rattle.muxer_rxq.proofs.push.rearmost.Statement.{statement}

@@ -1,0 +1,6 @@
+pub mod Queue
+pub mod Queued
+pub mod Look
+pub mod Pop
+pub mod Edges
+pub mod Promises
