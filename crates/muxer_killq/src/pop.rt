@@ -7,7 +7,7 @@ ghost use Rattle.queue.specs.Queue.{frontGone};
 ghost use Rattle.queue.specs.Look.{PeekLeft};
 ghost use Rattle.muxer_killq.specs.Item.{zeroItem};
 ghost use Rattle.muxer_killq.specs.Queue.{killq, soundQ};
-ghost use Rattle.muxer_killq.specs.Pop.{noKey, PeekSays, PopIn, PopSays};
+ghost use Rattle.muxer_killq.specs.Pop.{noKey, PeekSays, PopIn, PopLeft, PopSays};
 use crate::item::MuxerKillQItem;
 use crate::item::zero_item;
 use crate::killq::MuxerKillQ;

@@ -1,6 +1,6 @@
 -- `peek` and `pop` (01, "The two queues"). Assumes nothing.
 use mathlib.Core.Path.{_≡_}
-use mathlib.Core.Bool.{Bool, true}
+use mathlib.Core.Bool.{true}
 use Rattle.defs.specs.Ladder.{recordAnswer}
 use Rattle.queue.specs.Look.{PeekLeft, peekOf}
 use Rattle.queue.specs.Pop as pops
@@ -15,13 +15,9 @@ PeekSays q left = left ≡ peekOf rxq q
 abbrev pub PopLeft : Type 0
 PopLeft = pops.PopLeft MuxerRx MuxerRxQ
 
--- the front item goes, whatever it is
-abbrev pub isDue : MuxerRx → Bool
-isDue it = true
-
--- and is given itself; the zero item where there is none
+-- the front item goes, whatever it is, and is given as it is; the zero item where there is none
 abbrev pub popOf : MuxerRxQ → PopLeft
-popOf q = pops.popOf rxq zeroItem isDue (λ it. it) (recordAnswer (soundQ q)) q
+popOf q = pops.popOf rxq zeroItem (λ it. true) (λ it. it) (recordAnswer (soundQ q)) q
 
 -- THE STATEMENT of `pop`
 abbrev pub PopSays : MuxerRxQ → PopLeft → Type 0

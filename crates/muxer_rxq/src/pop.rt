@@ -6,7 +6,7 @@ ghost use Rattle.defs.specs.Answer.{told};
 ghost use Rattle.queue.specs.Queue.{frontGone};
 ghost use Rattle.queue.specs.Look.{PeekLeft};
 ghost use Rattle.muxer_rxq.specs.Queue.{rxq, soundQ, zeroItem};
-ghost use Rattle.muxer_rxq.specs.Pop.{PeekSays, PopSays};
+ghost use Rattle.muxer_rxq.specs.Pop.{PeekSays, PopLeft, PopSays};
 use crate::rxq::MuxerRx;
 use crate::rxq::MuxerRxQ;
 use crate::rxq::zero_item;

@@ -2,15 +2,13 @@
 use Prim.Native.Nat.{ℕ, zero, suc, _+_, _-_, _≤_, _<_}
 use mathlib.Core.Path.{_≡_, refl, ap, sym, _∙_}
 use mathlib.Core.Bool.{Bool, true, false}
-use mathlib.Core.List.{List, [], _∷_, _++_, map, append-nil}
+use mathlib.Core.List.{List, [], _∷_, _++_, map}
 use native.Mathlib.Numerals.{add-one}
 use mathlib.Core.Logic.{⊎-elim}
-use native.Mathlib.Nat.{not-suc-le-zero, eq-or-lt-of-le, eq-zero-or-pos}
+use native.Mathlib.Nat.{not-suc-le-zero, eq-zero-or-pos}
 use native.Mathlib.Omega.{arith}
-use lib.Dec.{leb, ltb}
-use borrow.Author.Tests.{lt-leb, le-leb, leb-true, ltb-true}
-use lib.ListN.{length, getD, take, drop, set, replicate, length-map, length-append, length-drop, length-take, length-set, take-append-drop}
-use lib.Seq.{take-suc, drop-cons, set-at, set-append-left, append-snoc, length-take-le, getD-drop, take-append-seam, drop-append-seam, take-at, take-all}
+use lib.ListN.{length, getD, take, drop, set, replicate, length-map, length-append, length-drop, length-set, take-append-drop}
+use lib.Seq.{take-suc, drop-cons, set-at, set-append-left, append-snoc, length-take-le, getD-drop, take-append-seam, drop-append-seam}
 use Rattle.defs.proofs.Basics.{both}
 use Rattle.queue.specs.Queue.{padded, all}
 

@@ -14,7 +14,7 @@ use Rattle.defs.specs.declared.answer.Answer.the-variants.{Done, NotQueued}
 use Rattle.defs.proofs.AnswerLaws.{NotDone, not-done, when-done, when-not-done, outcome-kept, outcome-done, told-tells-apart}
 use Rattle.defs.proofs.ChoiceLaws.{when-holds}
 use Rattle.defs.proofs.LadderLaws.{firstRow, by-first-row, record-passed}
-use Rattle.queue.specs.Queue.{Kind, Lawful, soundQ, items, pack, holding}
+use Rattle.queue.specs.Queue.{Kind, Lawful, soundQ, items, pack}
 use Rattle.queue.specs.Queued.{QueuedLeft, ListLeft, leaves, hasRoom, madeOf, newOf, laid, pushOf, pushRows}
 use Rattle.queue.proofs.QueueLaws.{Sound, sound-past, synced-anew, queue-is-its-list, sound-stays-sound, room-is, room-within, appended}
 

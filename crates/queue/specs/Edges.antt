@@ -3,9 +3,12 @@ use Prim.Native.Nat.{ℕ}
 use mathlib.Core.Bool.{Bool, true, false, _&&_}
 use mathlib.Core.List.{List, [], _∷_}
 use lib.Dec.{leb, eqb}
+use Rattle.defs.specs.Answer.{told}
 use Rattle.defs.specs.Reading.{Reading, _reads_}
+use Rattle.defs.specs.declared.answer.Answer.the-variants.{Done}
 use Rattle.queue.specs.Queue.{Queue, Kind, soundQ, pack}
 use Rattle.queue.specs.Queued.{hasRoom}
+use Rattle.queue.specs.Pop.{PopLeft, popOf}
 
 abbrev numbers : Kind (Queue ℕ) ℕ
 numbers = record {
@@ -37,6 +40,17 @@ unfoldable pub packs : List Reading
 packs =
     (pack numbers (5 ∷ []) 2 true reads record { places = 5 ∷ 0 ∷ 0 ∷ []; len = 1; limit = 2; synced = true })
     ∷ (pack numbers [] 2 false reads record { places = 0 ∷ 0 ∷ 0 ∷ []; len = 0; limit = 2; synced = false })
+    ∷ []
+
+abbrev popped : List ℕ → PopLeft ℕ (Queue ℕ)
+popped l = popOf numbers 0 (λ x. leb x 5) (λ x. x) Done (pack numbers l 2 false)
+
+-- a pop of what is at most 5: the front goes, sync stays; what isn't due stays, also before what is; and there may be nothing
+unfoldable pub pops : List Reading
+pops =
+    (popped (5 ∷ 6 ∷ []) reads record { answer = told Done; found = true; given = 5; queue = pack numbers (6 ∷ []) 2 false })
+    ∷ (popped (6 ∷ 5 ∷ []) reads record { answer = told Done; found = false; given = 0; queue = pack numbers (6 ∷ 5 ∷ []) 2 false })
+    ∷ (popped [] reads record { answer = told Done; found = false; given = 0; queue = pack numbers [] 2 false })
     ∷ []
 
 -- room: synced and not full

@@ -14,7 +14,7 @@ pub record PopLeft (G Q : Type 0) : Type 0 where
   pub queue : Q
 
 -- nothing is given, and the queue is as it was
-abbrev pub none : {G Q : Type 0} → G → Answer → Q → PopLeft G Q
+abbrev none : {G Q : Type 0} → G → Answer → Q → PopLeft G Q
 none nothing answer q = record { answer = told answer; found = false; given = nothing; queue = q }
 
 module _ {Q A G : Type 0} (k : Kind Q A) (nothing : G) (due : A → Bool) (give : A → G) where

@@ -8,7 +8,7 @@ use Rattle.defs.specs.Pinned.{Pinned}
 use Rattle.defs.specs.Reading.{Hold}
 use Rattle.queue.specs.Queue.{Kind, Lawful, soundQ, items, pack, holding}
 use Rattle.queue.specs.Queued.{hasRoom}
-use Rattle.queue.specs.Edges.{sounds, packs, rooms}
+use Rattle.queue.specs.Edges.{sounds, packs, pops, rooms}
 
 -- the queue means its list: a list within the limit makes a sound queue that holds it, and a sound queue is the one that its items make
 pub record QueueIsItsList {Q A : Type 0} (k : Kind Q A) : Type 0 where
@@ -30,6 +30,7 @@ SoundStaysSound =
 pub record EdgesHold : Type 0 where
   pub sounds : Hold sounds
   pub packs : Hold packs
+  pub pops : Hold pops
   pub rooms : Hold rooms
 
 pub record RoomIn : Type 0 where

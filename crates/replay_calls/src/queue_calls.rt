@@ -22,7 +22,14 @@ const PLACES: usize = 5120;
 // More slots than a table may have.
 const SLOTS: usize = 520;
 
-pub fn call(entry: u8, head: &[u8], places: &[u8], ports: &[u8], used: &[u8], marks: &[u8]) {
+pub fn call<'a>(
+    entry: u8,
+    head: &[u8],
+    places: &[u8],
+    ports: &[u8],
+    used: &'a [u8],
+    marks: &'a [u8],
+) {
     match entry {
         31 => rx_new(head),
         32 => rx_from_conn_map(head, ports, used, marks),
@@ -411,7 +418,7 @@ fn slots(bytes: usize, all: &[u64]) -> usize
     if n < all.len() { n } else { all.len() }
 }
 
-fn rx_from_conn_map(head: &[u8], ports: &[u8], used: &[u8], pending: &[u8]) {
+fn rx_from_conn_map<'a>(head: &[u8], ports: &[u8], used: &'a [u8], pending: &'a [u8]) {
     let keys = numbers(ports);
     let n = slots(ports.len(), &keys);
     let built = MuxerRxQ::from_conn_map(frame::usize_at(head, 56), &keys[..n], used, pending);

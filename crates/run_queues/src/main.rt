@@ -148,7 +148,7 @@ fn rx_last(queue: MuxerRxQ) {
     say(b"\n");
 }
 
-fn rx_build(limit: usize, ports: &[u64], used: &[u8], pending: &[u8]) -> MuxerRxQ {
+fn rx_build<'a>(limit: usize, ports: &'a [u64], used: &'a [u8], pending: &'a [u8]) -> MuxerRxQ {
     say(b"rx build ");
     number(limit as u64);
     say(b"slots ");
@@ -386,7 +386,13 @@ fn kill_last(queue: MuxerKillQ) {
     say(b"\n");
 }
 
-fn kill_build(limit: usize, clock: u64, ports: &[u64], used: &[u8], times: &[u64]) -> MuxerKillQ {
+fn kill_build<'a>(
+    limit: usize,
+    clock: u64,
+    ports: &'a [u64],
+    used: &'a [u8],
+    times: &'a [u64],
+) -> MuxerKillQ {
     say(b"kill build ");
     number(limit as u64);
     say(b"at ");
