@@ -7,7 +7,7 @@ use Rattle.defs.specs.declared.answer.Answer.{Answer}
 use Rattle.defs.specs.declared.answer.Answer.the-variants.{Done}
 use Rattle.defs.proofs.AnswerLaws.{NotDone, not-done, when-done, when-not-done}
 use Rattle.csm.specs.State.{polls}
-use Rattle.connection.specs.Record.{quiet, creditOf}
+use Rattle.connection.specs.Record.{creditOf}
 use Rattle.connection.specs.Look.{lookAnswer, EvSetLeft, evSetOf}
 use Rattle.connection.specs.declared.record.VsockConnection.{VsockConnection}
 

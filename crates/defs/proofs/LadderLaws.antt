@@ -6,14 +6,13 @@ use mathlib.Core.Bool.{Bool, true, false, not}
 use mathlib.Core.List.{List, [], _∷_}
 use native.Mathlib.Omega.{arith}
 use native.Mathlib.Nat.{not-suc-le-zero, le-of-suc-le-suc}
-use lib.ListN.{getD}
 use borrow.Author.Tests.{not-false}
 use Rattle.defs.specs.Choice.{when}
 use Rattle.defs.specs.Answer.{Told, told, isDone, whenDone}
 use Rattle.defs.specs.Ladder.{doorOf, lateOf, lowestOf, recordAnswer, clockAnswer}
 use Rattle.defs.specs.Limits.{isClock}
 use Rattle.defs.specs.Stream.{stoppedBy, stops}
-use Rattle.defs.specs.Promises.{LowestRow, AnswersBy, rowAt, FirstInTurn, AnswersInTurn, LowestNumber, RecordAnswers, ClockAnswers}
+use Rattle.defs.specs.Promises.{rowAt, FirstInTurn, AnswersInTurn, LowestNumber, RecordAnswers, ClockAnswers}
 use Rattle.defs.specs.declared.answer.Answer.{Answer}
 use Rattle.defs.specs.declared.answer.Answer.the-variants.{Done}
 use Rattle.defs.specs.declared.stream.StreamAnswer.{StreamAnswer}
@@ -22,56 +21,8 @@ use Rattle.defs.proofs.ChoiceLaws.{when-true, when-false}
 use Rattle.defs.proofs.AnswerLaws.{NotDone, not-done, is-done, done-is-done, when-done, when-not-done}
 use Rattle.defs.proofs.Basics.{never, lt-or-ge, true-or-false}
 
--- one row down, where there is a row
-abbrev up : ℕ → ℕ
-up zero = zero
-up (suc n) = suc (suc n)
-
--- the number of the first row whose test holds
-abbrev pub firstRow : List Bool → ℕ
-firstRow [] = 0
-firstRow (true ∷ ts) = 1
-firstRow (false ∷ ts) = up (firstRow ts)
-
-no-row : (m : ℕ) → getD {A = Bool} [] m false ≡ false
-no-row zero = refl
-no-row (suc m) = refl
-
-one-on : (ts : List Bool) (n : ℕ) → LowestRow ts n → LowestRow (false ∷ ts) (up n)
-one-on ts zero p = λ m. above m
-  where
-    above : (m : ℕ) → getD (false ∷ ts) m false ≡ false
-    above zero = refl
-    above (suc m) = p m
-one-on ts (suc n) p = (p .0, λ m l. above m l)
-  where
-    above : (m : ℕ) → m < suc n → getD (false ∷ ts) m false ≡ false
-    above zero l = refl
-    above (suc m) l = p .1 m (le-of-suc-le-suc l)
-
-first-is-lowest : (ts : List Bool) → LowestRow ts (firstRow ts)
-first-is-lowest [] = no-row
-first-is-lowest (true ∷ ts) = (refl, λ m l. absurd (not-suc-le-zero l))
-first-is-lowest (false ∷ ts) = one-on ts (firstRow ts) (first-is-lowest ts)
-
 clash : (b : Bool) → b ≡ false → b ≡ true → ⊥
 clash b p q = never (sym p ∙ q)
-
-one-lowest : (ts : List Bool) (n k : ℕ) → LowestRow ts n → LowestRow ts k → n ≡ k
-one-lowest ts zero zero p q = refl
-one-lowest ts zero (suc k) p q = absurd (clash _ (p k) (q .0))
-one-lowest ts (suc n) zero p q = absurd (clash _ (q n) (p .0))
-one-lowest ts (suc n) (suc k) p q =
-    ⊎-elim
-    (λ (l : n < k). absurd (clash _ (q .1 n l) (p .0)))
-    (λ (l : k ≤ n).
-    ⊎-elim (λ (m : k < n). absurd (clash _ (p .1 k m) (q .0))) (λ (m : n ≤ k). omega arith) (lt-or-ge k n))
-    (lt-or-ge n k)
-
--- where a number is that of the first row whose test holds
-pub by-first-row : (t : Told) (tests : List Bool) → t .number ≡ firstRow tests → AnswersBy t tests
-by-first-row t tests e n =
-    (λ p. subst (λ (k : ℕ). LowestRow tests k) (sym e ∙ p) (first-is-lowest tests), λ q. e ∙ one-lowest tests _ n (first-is-lowest tests) q)
 
 -- the number of the first row whose test holds, 0 where none does
 abbrev pub firstInTurn : List (ℕ × Bool) → ℕ

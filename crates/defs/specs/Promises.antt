@@ -1,5 +1,5 @@
 -- What this crate promises, in statements only; proofs/Promises has a line for each. Assumes nothing.
-use Prim.Native.Nat.{ℕ, zero, suc, _+_, _-_, _%_, _^_, _<_, _≤_, min}
+use Prim.Native.Nat.{ℕ, _+_, _-_, _%_, _^_, _<_, _≤_, min}
 use mathlib.Core.Path.{_≡_}
 use mathlib.Core.Bool.{Bool, true, false, not}
 use mathlib.Core.List.{List, [], _∷_}
@@ -25,15 +25,6 @@ Exactly p q = (p → q) × (q → p)
 -- 01, "When an answer is an enum": number and values tell the cases apart
 abbrev pub ToldTellsApart : Type 0
 ToldTellsApart = (a b : Answer) → told a ≡ told b → a ≡ b
-
--- row n's test holds and no lower row's does; row 0 is "otherwise", where no test holds
-abbrev pub LowestRow : List Bool → ℕ → Type 0
-LowestRow tests zero = (m : ℕ) → getD tests m false ≡ false
-LowestRow tests (suc n) = (getD tests n false ≡ true) × ((m : ℕ) → m < n → getD tests m false ≡ false)
-
--- 01's "given exactly when" and "several at once: the lowest number", by the tests of the rows
-abbrev pub AnswersBy : Told → List Bool → Type 0
-AnswersBy t tests = (n : ℕ) → Exactly (t .number ≡ n) (LowestRow tests n)
 
 -- row i of a list of rows, each a number of 01's table and its test; past the last stands 0, "otherwise"
 abbrev pub rowAt : List (ℕ × Bool) → ℕ → ℕ × Bool

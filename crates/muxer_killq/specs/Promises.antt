@@ -7,7 +7,7 @@ use lib.Dec.{eqb}
 use lib.ListN.{length}
 use Rattle.defs.specs.Answer.{told}
 use Rattle.defs.specs.Pinned.{Pinned}
-use Rattle.defs.specs.Promises.{AnswersBy}
+use Rattle.defs.specs.Promises.{AnswersInTurn}
 use Rattle.defs.specs.Reading.{Hold}
 use Rattle.defs.specs.Look.{FlagLeft}
 use Rattle.defs.specs.declared.answer.Answer.the-variants.{Done}
@@ -40,7 +40,7 @@ pub record SoundStaysSound : Type 0 where
 abbrev pub PushAnswers : Type 0
 PushAnswers =
     (i : PushIn) (left : QueuedLeft MuxerKillQ) → PushSays i left
-    → AnswersBy (left .answer)
+    → AnswersInTurn (left .answer)
     (pushRows (soundQ (i .queue)) (turnsDown (items (i .queue)) (i .queue .limit) (i .queue .synced)))
 
 -- the first item of a list is not earlier than a time

@@ -4,7 +4,7 @@ use mathlib.Core.Path.{_≡_}
 use mathlib.Core.Bool.{true}
 use Rattle.defs.specs.Answer.{told}
 use Rattle.defs.specs.Pinned.{Pinned}
-use Rattle.defs.specs.Promises.{AnswersBy}
+use Rattle.defs.specs.Promises.{AnswersInTurn}
 use Rattle.defs.specs.Reading.{Hold}
 use Rattle.defs.specs.Look.{FlagLeft, LenLeft}
 use Rattle.defs.specs.declared.answer.Answer.the-variants.{Done}
@@ -34,7 +34,7 @@ pub record SoundStaysSound : Type 0 where
 abbrev pub PushAnswers : Type 0
 PushAnswers =
     (i : PushIn) (left : QueuedLeft MuxerRxQ) → PushSays i left
-    → AnswersBy (left .answer)
+    → AnswersInTurn (left .answer)
     (pushRows (soundQ (i .queue)) (turnsDown (items (i .queue)) (i .queue .limit) (i .queue .synced) (i .rx)))
 
 -- 01's readings at the edges of this crate

@@ -8,12 +8,12 @@ use lib.ListN.{length, set}
 use Rattle.defs.specs.Choice.{when}
 use Rattle.defs.specs.Answer.{Told, told, isDone, whenDone}
 use Rattle.defs.specs.Ladder.{doorOf, recordAnswer}
-use Rattle.defs.specs.Promises.{AnswersBy}
+use Rattle.defs.specs.Promises.{AnswersInTurn}
 use Rattle.defs.specs.declared.answer.Answer.{Answer}
 use Rattle.defs.specs.declared.answer.Answer.the-variants.{Done, NotQueued}
 use Rattle.defs.proofs.AnswerLaws.{NotDone, not-done, when-done, when-not-done, outcome-kept, outcome-done, told-tells-apart}
 use Rattle.defs.proofs.ChoiceLaws.{when-holds}
-use Rattle.defs.proofs.LadderLaws.{firstRow, by-first-row, record-passed}
+use Rattle.defs.proofs.LadderLaws.{firstInTurn, by-turn, record-passed}
 use Rattle.queue.specs.Queue.{Kind, Lawful, soundQ, items, pack}
 use Rattle.queue.specs.Queued.{QueuedLeft, ListLeft, leaves, hasRoom, madeOf, newOf, laid, pushOf, pushRows}
 use Rattle.queue.proofs.QueueLaws.{Sound, sound-past, synced-anew, queue-is-its-list, sound-stays-sound, room-is, room-within, appended}
@@ -95,14 +95,14 @@ module _ {Q A : Type 0} (k : Kind Q A) (left : QueuedLeft Q) where
 -- ---- the number of a push: 1 where the queue isn't sound, 11 where it is turned down
 
 number : {Q : Type 0} (sound down : Bool) (left : QueuedLeft Q) (q : Q) → left .answer .number ≡ when down 11 0
-    → whenDone (recordAnswer sound) left (record { answer = told (recordAnswer sound); queue = q }) .answer .number ≡ firstRow (pushRows sound down)
+    → whenDone (recordAnswer sound) left (record { answer = told (recordAnswer sound); queue = q }) .answer .number ≡ firstInTurn (pushRows sound down)
 unfolding recordAnswer doorOf whenDone isDone when
 number false down left q e = refl
 number true true left q e = e
 number true false left q e = e
 
 pub push-numbers : {Q A : Type 0} (k : Kind Q A) (push : List A → ℕ → Bool → ListLeft A) (q : Q) (down : Bool) (left : QueuedLeft Q) → left ≡ pushOf k push q
-    → told (push (items k q) (k .seen q .limit) (k .seen q .synced) .answer) .number ≡ when down 11 0 → AnswersBy (left .answer) (pushRows (soundQ k q) down)
+    → told (push (items k q) (k .seen q .limit) (k .seen q .synced) .answer) .number ≡ when down 11 0 → AnswersInTurn (left .answer) (pushRows (soundQ k q) down)
 unfolding pushOf
 push-numbers k push q down left e f =
-    by-first-row (left .answer) _ (ap (λ (o : QueuedLeft _). o .answer .number) e ∙ number (soundQ k q) down _ q f)
+    by-turn (left .answer) _ (ap (λ (o : QueuedLeft _). o .answer .number) e ∙ number (soundQ k q) down _ q f)

@@ -7,8 +7,8 @@ use native.Mathlib.Omega.{arith}
 use native.Mathlib.Nat.{le-trans}
 use lib.ListN.{length, length-append}
 use Rattle.defs.proofs.ChoiceLaws.{when-true, when-false}
-use Rattle.runs.specs.Runs.{Machine, Steps, none, then, gathered, outs, Each, Account, Forwards, Alike}
-use Rattle.runs.specs.Promises.{Keeps, Moves, EachMoves, Begins, Wanes, EveryRunKeeps, EveryRunForwards, CutsDoNotMatter, Drains}
+use Rattle.runs.specs.Runs.{Machine, Steps, none, then, gathered, outs, Each, Account, Forwards}
+use Rattle.runs.specs.Promises.{Keeps, Moves, Begins, Wanes, EveryRunKeeps, EveryRunForwards, CutsDoNotMatter, Drains}
 
 -- ---- what every call keeps
 
