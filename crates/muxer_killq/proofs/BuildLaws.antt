@@ -6,7 +6,6 @@ use mathlib.Core.List.{List, [], _∷_}
 use native.Mathlib.Omega.{arith}
 use lib.Dec.{leb}
 use lib.ListN.{length, getD, take, length-take}
-use Rattle.defs.specs.Answer.{told}
 use Rattle.defs.specs.Ladder.{clockAnswer}
 use Rattle.defs.specs.Limits.{maxKillq, isKillqLimit}
 use Rattle.defs.specs.declared.answer.Answer.{Answer}
@@ -15,17 +14,14 @@ use Rattle.defs.proofs.Basics.{both}
 use Rattle.conn_map.specs.Table.{Slot, usedAt, slotAt, slotsOf, soundTable}
 use Rattle.conn_map.proofs.TableLaws as tables
 use Rattle.queue.specs.Queue.{holding}
-use Rattle.queue.specs.Queued.{QueuedLeft}
 use Rattle.queue.proofs.QueueLaws.{queue-is-its-list}
-use Rattle.queue.proofs.QueuedLaws.{made-sound}
 use Rattle.queue.proofs.WalkLaws as walks
 use Rattle.muxer_killq.specs.Queue.{killq, soundQ, items, pack}
 use Rattle.muxer_killq.specs.Sort.{sortByTime}
-use Rattle.muxer_killq.specs.Build.{isDue, itemOf, dueOf, builtFrom, collected, marked, BuildIn, buildAnswer, buildOf, BuildSays}
+use Rattle.muxer_killq.specs.Build.{isDue, itemOf, dueOf, builtFrom, collected, marked, BuildIn, buildAnswer}
 use Rattle.muxer_killq.specs.declared.item.MuxerKillQItem.{MuxerKillQItem}
 use Rattle.muxer_killq.specs.declared.killq.MuxerKillQ.{MuxerKillQ}
 use Rattle.muxer_killq.proofs.QueueLaws.{lawful, clock-passed}
-use Rattle.muxer_killq.proofs.SortLaws.{sort-length}
 
 module _ (clock : ℕ) (ports used times : List ℕ) where
   -- the items that are due from slot i on
@@ -70,23 +66,16 @@ module _ (i : BuildIn) (a : Answer) (e : a ≡ buildAnswer i) (d : a ≡ Done) w
   pub ready : tables.Ready maxKillq (i .limit) (i .ports) (i .used) (i .times)
   ready = tables.ready _ _ _ _ _ (isKillqLimit (i .limit)) (lawful .limit-fits (i .limit)) passed
 
-  packed : (l : List MuxerKillQItem) (synced : Bool) (slots : List Slot) → length l ≡ length (take (i .limit) (dueOf (i .clock) slots)) → soundQ (pack l (i .limit) synced) ≡ true
-  packed l synced slots n =
+  -- what a list of so many items makes
+  pub taken-sound : (l : List MuxerKillQItem) (synced : Bool) (slots : List Slot) → length l ≡ length (take (i .limit) (dueOf (i .clock) slots)) → soundQ (pack l (i .limit) synced) ≡ true
+  taken-sound l synced slots n =
       queue-is-its-list killq lawful .packed-sound l (i .limit) synced (both (isKillqLimit (i .limit)) _ passed .0) (omega (arith, length-take (i .limit) (dueOf (i .clock) slots)))
 
   pub collected-sound : (q : MuxerKillQ) (slots : List Slot) → q ≡ collected (i .limit) (i .clock) slots → soundQ q ≡ true
   unfolding collected
-  collected-sound q slots f = ap soundQ f ∙ packed (take (i .limit) (dueOf (i .clock) slots)) _ slots refl
-
-  built-sound : (slots : List Slot) → soundQ (builtFrom (i .limit) (i .clock) slots) ≡ true
-  unfolding builtFrom
-  built-sound slots = packed (sortByTime (take (i .limit) (dueOf (i .clock) slots))) _ slots (sort-length _)
+  collected-sound q slots f = ap soundQ f ∙ taken-sound (take (i .limit) (dueOf (i .clock) slots)) _ slots refl
 
 pub build-answer : (i : BuildIn) (a : Answer) (l s : Bool) → a ≡ clockAnswer (l && s) (i .clock) → l ≡ isKillqLimit (i .limit)
     → s ≡ soundTable (i .ports) (i .used) (length (i .times)) → a ≡ buildAnswer i
 unfolding buildAnswer
 build-answer i a l s e f g = rw (← f, ← g) e
-
-pub build-stays-sound : (i : BuildIn) (left : QueuedLeft MuxerKillQ) → BuildSays i left → left .answer ≡ told Done → soundQ (left .queue) ≡ true
-unfolding buildOf
-build-stays-sound i left = made-sound killq left _ _ (λ d. built-sound i _ refl d (slotsOf (i .ports) (i .used) (i .times)))

@@ -3,4 +3,5 @@ pub mod QueueLaws
 pub mod PushLaws
 pub mod SortLaws
 pub mod BuildLaws
+pub mod SoundLaws
 pub mod Promises

@@ -1,26 +1,19 @@
 -- The promises of specs/Promises, each by its law. Assumes nothing.
 use Rattle.defs.proofs.Pins.{by-equation}
 use Rattle.queue.proofs.QueueLaws as queues
-use Rattle.queue.proofs.QueuedLaws.{new-sound}
-use Rattle.queue.proofs.PopLaws.{pop-sound}
 use Rattle.muxer_killq.specs.Queue.{killq}
 use Rattle.muxer_killq.specs.Promises.{QueueIsItsList, SoundStaysSound, PushAnswers, EverySortIsStable, EdgesHold, EachCallPinned}
 use Rattle.muxer_killq.proofs.Edges as edges
 use Rattle.muxer_killq.proofs.QueueLaws.{lawful}
 use Rattle.muxer_killq.proofs.PushLaws as pushes
-use Rattle.muxer_killq.proofs.BuildLaws as builds
+use Rattle.muxer_killq.proofs.SoundLaws as sounds
 use Rattle.muxer_killq.proofs.SortLaws as sorts
 
 pub queue-is-its-list : QueueIsItsList
 queue-is-its-list = queues.queue-is-its-list killq lawful
 
 pub sound-stays-sound : SoundStaysSound
-sound-stays-sound = record {
-  new = λ limit left. new-sound killq left lawful limit;
-  from-conn-map = builds.build-stays-sound;
-  push = pushes.push-stays-sound;
-  pop = λ i left e s. pop-sound killq lawful _ _ _ (i .queue) s _ left e;
-}
+sound-stays-sound = sounds.sound-stays-sound
 
 pub every-sort-is-stable : EverySortIsStable
 every-sort-is-stable = sorts.every-sort-is-stable

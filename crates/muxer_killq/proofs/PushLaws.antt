@@ -8,15 +8,13 @@ use Rattle.defs.specs.Choice.{when}
 use Rattle.defs.specs.Answer.{told}
 use Rattle.defs.specs.declared.answer.Answer.the-variants.{Done, NotQueued}
 use Rattle.defs.proofs.ChoiceLaws.{when-true, when-false, when-holds}
-use Rattle.queue.specs.Queued.{QueuedLeft, ListLeft, leaves, hasRoom}
-use Rattle.queue.proofs.QueueLaws.{items-within, append-within}
-use Rattle.queue.proofs.QueuedLaws.{push-numbers, push-sound}
-use Rattle.muxer_killq.specs.Queue.{killq, soundQ, items}
-use Rattle.muxer_killq.specs.Push.{itemAt, pushList, PushIn, PushSays}
+use Rattle.queue.specs.Queued.{ListLeft, leaves, hasRoom}
+use Rattle.queue.proofs.QueueLaws.{append-within}
+use Rattle.queue.proofs.QueuedLaws.{push-numbers}
+use Rattle.muxer_killq.specs.Queue.{killq, items}
+use Rattle.muxer_killq.specs.Push.{itemAt, pushList}
 use Rattle.muxer_killq.specs.Promises.{PushAnswers}
 use Rattle.muxer_killq.specs.declared.item.MuxerKillQItem.{MuxerKillQItem}
-use Rattle.muxer_killq.specs.declared.killq.MuxerKillQ.{MuxerKillQ}
-use Rattle.muxer_killq.proofs.QueueLaws.{lawful}
 
 module _ (it : MuxerKillQItem) (l : List MuxerKillQItem) (limit : ℕ) (synced : Bool) where
   pub appends : hasRoom synced (length l) limit ≡ true → pushList it l limit synced ≡ leaves Done (l ++ (it ∷ [])) synced
@@ -28,17 +26,12 @@ module _ (it : MuxerKillQItem) (l : List MuxerKillQItem) (limit : ℕ) (synced :
   turned t = when-false _ _ _ t
 
   -- what is left is within the limit
-  push-within : length l ≤ limit → length (pushList it l limit synced .list) ≤ limit
+  pub push-within : length l ≤ limit → length (pushList it l limit synced .list) ≤ limit
   unfolding pushList
   push-within h =
       when-holds (λ (o : ListLeft MuxerKillQItem). length (o .list) ≤ limit) (hasRoom synced (length l) limit) _ _
       (λ t. append-within l it limit synced t)
       (λ t. h)
-
-pub push-stays-sound : (i : PushIn) (left : QueuedLeft MuxerKillQ) → PushSays i left → soundQ (i .queue) ≡ true → soundQ (left .queue) ≡ true
-push-stays-sound i left e s =
-    let it = itemAt (i .key) (i .«kill_time») in
-    push-sound killq left lawful (pushList it) (i .queue) e s (push-within it (items (i .queue)) (i .queue .limit) (i .queue .synced) (items-within killq (i .queue) s))
 
 -- ---- which number
 

@@ -1,25 +1,19 @@
 -- Laws of `from_conn_map`: what a turn of the walk keeps, what a slot gives, and the refusals. Assumes nothing.
 use Prim.Native.Nat.{ℕ, _+_, _<_}
-use mathlib.Core.Path.{_≡_, refl}
+use mathlib.Core.Path.{_≡_}
 use mathlib.Core.Bool.{Bool, true, false, _&&_}
 use mathlib.Core.List.{List, [], _∷_}
-use native.Mathlib.Omega.{arith}
-use lib.ListN.{length, getD, take, length-take}
-use Rattle.defs.specs.Answer.{told}
+use lib.ListN.{length, getD}
 use Rattle.defs.specs.Ladder.{recordAnswer}
 use Rattle.defs.specs.Limits.{maxRxq, isRxqLimit}
 use Rattle.defs.specs.declared.answer.Answer.{Answer}
 use Rattle.defs.specs.declared.answer.Answer.the-variants.{Done}
-use Rattle.defs.proofs.Basics.{both}
 use Rattle.defs.proofs.LadderLaws.{record-passed}
 use Rattle.conn_map.specs.Table.{usedAt, slotAt, slotsOf, soundTable}
 use Rattle.conn_map.proofs.TableLaws as tables
-use Rattle.queue.specs.Queued.{QueuedLeft}
-use Rattle.queue.proofs.QueueLaws.{queue-is-its-list}
-use Rattle.queue.proofs.QueuedLaws.{made-sound}
 use Rattle.queue.proofs.WalkLaws as walks
-use Rattle.muxer_rxq.specs.Queue.{rxq, soundQ, pack}
-use Rattle.muxer_rxq.specs.Build.{isPending, itemOf, pendingOf, builtFrom, marked, BuildIn, buildAnswer, buildOf, BuildSays}
+use Rattle.muxer_rxq.specs.Queue.{pack}
+use Rattle.muxer_rxq.specs.Build.{isPending, itemOf, pendingOf, marked, BuildIn, buildAnswer}
 use Rattle.muxer_rxq.specs.declared.rxq.MuxerRx.{MuxerRx}
 use Rattle.muxer_rxq.specs.declared.rxq.MuxerRxQ.{MuxerRxQ}
 use Rattle.muxer_rxq.proofs.QueueLaws.{lawful}
@@ -49,7 +43,7 @@ module _ (ports used pending : List ℕ) where
 -- ---- the refusals
 
 module _ (i : BuildIn) (a : Answer) (e : a ≡ buildAnswer i) (d : a ≡ Done) where
-  passed : isRxqLimit (i .limit) && soundTable (i .ports) (i .used) (length (i .pending)) ≡ true
+  pub passed : isRxqLimit (i .limit) && soundTable (i .ports) (i .used) (length (i .pending)) ≡ true
   unfolding buildAnswer
   passed = record-passed a _ e d
 
@@ -60,12 +54,3 @@ pub build-answer : (i : BuildIn) (a : Answer) (l s : Bool) → a ≡ recordAnswe
     → s ≡ soundTable (i .ports) (i .used) (length (i .pending)) → a ≡ buildAnswer i
 unfolding buildAnswer
 build-answer i a l s e f g = rw (← f, ← g) e
-
-pub build-stays-sound : (i : BuildIn) (left : QueuedLeft MuxerRxQ) → BuildSays i left → left .answer ≡ told Done → soundQ (left .queue) ≡ true
-unfolding buildOf builtFrom
-build-stays-sound i left =
-    let l = pendingOf (slotsOf (i .ports) (i .used) (i .pending)) in
-    made-sound rxq left _ _
-    (λ d.
-    queue-is-its-list rxq lawful .packed-sound (take (i .limit) l) (i .limit) _ (both (isRxqLimit (i .limit)) _ (passed i _ refl d) .0)
-    (omega (arith, length-take (i .limit) l)))

@@ -2,4 +2,5 @@ pub mod Edges
 pub mod QueueLaws
 pub mod PushLaws
 pub mod BuildLaws
+pub mod SoundLaws
 pub mod Promises

@@ -1,25 +1,18 @@
 -- The promises of specs/Promises, each by its law. Assumes nothing.
 use Rattle.defs.proofs.Pins.{by-equation}
 use Rattle.queue.proofs.QueueLaws as queues
-use Rattle.queue.proofs.QueuedLaws.{new-sound}
-use Rattle.queue.proofs.PopLaws.{pop-sound}
 use Rattle.muxer_rxq.specs.Queue.{rxq}
 use Rattle.muxer_rxq.specs.Promises.{QueueIsItsList, SoundStaysSound, PushAnswers, EdgesHold, EachCallPinned}
 use Rattle.muxer_rxq.proofs.Edges as edges
 use Rattle.muxer_rxq.proofs.QueueLaws.{lawful}
 use Rattle.muxer_rxq.proofs.PushLaws as pushes
-use Rattle.muxer_rxq.proofs.BuildLaws as builds
+use Rattle.muxer_rxq.proofs.SoundLaws as sounds
 
 pub queue-is-its-list : QueueIsItsList
 queue-is-its-list = queues.queue-is-its-list rxq lawful
 
 pub sound-stays-sound : SoundStaysSound
-sound-stays-sound = record {
-  new = λ limit left. new-sound rxq left lawful limit;
-  from-conn-map = builds.build-stays-sound;
-  push = pushes.push-stays-sound;
-  pop = λ q left e s. pop-sound rxq lawful _ _ _ q s _ left e;
-}
+sound-stays-sound = sounds.sound-stays-sound
 
 pub push-answers : PushAnswers
 push-answers = pushes.push-answers

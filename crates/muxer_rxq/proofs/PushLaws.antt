@@ -14,10 +14,10 @@ use Rattle.defs.specs.declared.answer.Answer.the-variants.{Done, NotQueued}
 use Rattle.defs.proofs.ChoiceLaws.{when-true, when-false, when-holds}
 use Rattle.queue.specs.Queued.{QueuedLeft, ListLeft, leaves, hasRoom, laid}
 use Rattle.queue.proofs.PlacesLaws.{positive}
-use Rattle.queue.proofs.QueueLaws.{Sound, sound-packed, replaced, items-within, append-within}
-use Rattle.queue.proofs.QueuedLaws.{push-numbers, push-sound}
-use Rattle.muxer_rxq.specs.Queue.{zeroItem, rxq, soundQ, items}
-use Rattle.muxer_rxq.specs.Push.{lastConn, evictList, pushList, PushIn, PushSays}
+use Rattle.queue.proofs.QueueLaws.{Sound, sound-packed, replaced, append-within}
+use Rattle.queue.proofs.QueuedLaws.{push-numbers}
+use Rattle.muxer_rxq.specs.Queue.{zeroItem, rxq, items}
+use Rattle.muxer_rxq.specs.Push.{lastConn, evictList, pushList}
 use Rattle.muxer_rxq.specs.Promises.{PushAnswers}
 use Rattle.muxer_rxq.specs.declared.rxq.MuxerRx.{MuxerRx}
 use Rattle.muxer_rxq.specs.declared.rxq.MuxerRxQ.{MuxerRxQ}
@@ -95,7 +95,7 @@ module _ (rx : MuxerRx) (l : List MuxerRx) (limit : ℕ) (synced : Bool) where
   evicts r t = when-false _ _ _ t ∙ when-true _ _ _ r
 
   -- what is left is within the limit
-  push-within : length l ≤ limit → length (pushList rx l limit synced .list) ≤ limit
+  pub push-within : length l ≤ limit → length (pushList rx l limit synced .list) ≤ limit
   unfolding pushList evictList
   push-within h =
       when-holds (λ (o : ListLeft MuxerRx). length (o .list) ≤ limit) (hasRoom synced (length l) limit) _ _
@@ -104,10 +104,6 @@ module _ (rx : MuxerRx) (l : List MuxerRx) (limit : ℕ) (synced : Bool) where
       when-holds (λ (o : ListLeft MuxerRx). length (o .list) ≤ limit) (rx .rst) _ _
       (λ r. when-holds (λ (o : ListLeft MuxerRx). length (o .list) ≤ limit) (eqb (lastConn l) 0) _ _ (λ n. h) (λ n. omega (arith, length-set l (lastConn l - 1) rx)))
       (λ r. h))
-
-pub push-stays-sound : (i : PushIn) (left : QueuedLeft MuxerRxQ) → PushSays i left → soundQ (i .queue) ≡ true → soundQ (left .queue) ≡ true
-push-stays-sound i left e s =
-    push-sound rxq left lawful (pushList (i .rx)) (i .queue) e s (push-within (i .rx) (items (i .queue)) (i .queue .limit) (i .queue .synced) (items-within rxq (i .queue) s))
 
 -- ---- which number
 

@@ -10,6 +10,7 @@ use Rattle.queue.specs.Queue.{Queue, Kind, soundQ, pack}
 use Rattle.queue.specs.Queued.{hasRoom}
 use Rattle.queue.specs.Pop.{PopLeft, popOf}
 
+-- its items are numbers, 0 the zero item
 abbrev numbers : Kind (Queue ℕ) ℕ
 numbers = record {
   seen = λ q. q;
@@ -20,10 +21,11 @@ numbers = record {
   isLimit = λ n. leb 1 n && leb n 2;
 }
 
+-- soundness by places, length and limit
 abbrev isSound : List ℕ → ℕ → ℕ → Bool
 isSound places len limit = soundQ numbers (record { places = places; len = len; limit = limit; synced = true })
 
--- one item, also where the queue is full; a stray item behind it, within the limit and past it; a length over the limit; limits out of range
+-- one item, also where the queue is full; a stray item behind it, within the limit and past it; a length over the limit; limits 0 and 3
 unfoldable pub sounds : List Reading
 sounds =
     (isSound (5 ∷ 0 ∷ 0 ∷ []) 1 2 reads true)
@@ -42,10 +44,11 @@ packs =
     ∷ (pack numbers [] 2 false reads record { places = 0 ∷ 0 ∷ 0 ∷ []; len = 0; limit = 2; synced = false })
     ∷ []
 
+-- a pop of an unsynced queue that gives what is at most 5
 abbrev popped : List ℕ → PopLeft ℕ (Queue ℕ)
 popped l = popOf numbers 0 (λ x. leb x 5) (λ x. x) Done (pack numbers l 2 false)
 
--- a pop of what is at most 5: the front goes, sync stays; what isn't due stays, also before what is; and there may be nothing
+-- the front goes, sync stays; a front that isn't due stays, also before one that is; there may be nothing to give
 unfoldable pub pops : List Reading
 pops =
     (popped (5 ∷ 6 ∷ []) reads record { answer = told Done; found = true; given = 5; queue = pack numbers (6 ∷ []) 2 false })

@@ -27,15 +27,18 @@ module _ {Q A : Type 0} (k : Kind Q A) where
       (peekList (items k q))
       (record { answer = told (recordAnswer (soundQ k q)); found = false; item = k .zeroItem })
 
-  -- THE STATEMENTS of `is_synced`, `is_empty`, `is_full` and `len`
+  -- THE STATEMENT of `is_synced`
   abbrev pub SyncedSays : Q → FlagLeft → Type 0
   SyncedSays q left = FlagSays (recordAnswer (soundQ k q)) (k .seen q .synced) left
 
+  -- THE STATEMENT of `is_empty`: no item
   abbrev pub EmptySays : Q → FlagLeft → Type 0
   EmptySays q left = FlagSays (recordAnswer (soundQ k q)) (eqb (length (items k q)) 0) left
 
+  -- THE STATEMENT of `is_full`: as many items as the limit
   abbrev pub FullSays : Q → FlagLeft → Type 0
   FullSays q left = FlagSays (recordAnswer (soundQ k q)) (eqb (length (items k q)) (k .seen q .limit)) left
 
+  -- THE STATEMENT of `len`
   abbrev pub LengthSays : Q → LenLeft → Type 0
   LengthSays q left = LenSays (recordAnswer (soundQ k q)) (length (items k q)) left

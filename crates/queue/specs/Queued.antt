@@ -22,6 +22,7 @@ pub record ListLeft (A : Type 0) : Type 0 where
   pub list : List A
   pub synced : Bool
 
+-- the same in a line
 abbrev pub leaves : {A : Type 0} → Answer → List A → Bool → ListLeft A
 leaves answer l synced = record { answer = answer; list = l; synced = synced }
 
