@@ -34,11 +34,11 @@ compare:
 compare-if-at-hand:
 	oracle/compare-if-at-hand.sh $(SEED) $(CALLS)
 
-# What the Rust does with the calls of docs/DIFFERENCES.md.
+# What the original Rust, without any patch, does with the calls of docs/DIFFERENCES.md.
 beyond:
-	@mkdir -p target/oracle
-	@oracle/build.sh >target/oracle/build.log || { cat target/oracle/build.log; exit 1; }
-	@target/oracle/build/release/oracle beyond
+	@mkdir -p target/original
+	@oracle/build.sh original >target/original/build.log || { cat target/original/build.log; exit 1; }
+	@target/original/build/release/oracle beyond
 
 # Slips put into a copy of the Rust: the comparison must find each.
 slips:

@@ -4,6 +4,7 @@ use std::io::{Result, Write};
 use std::panic::{catch_unwind, AssertUnwindSafe};
 
 use crate::calls;
+use crate::limits::*;
 use crate::record::*;
 use crate::settings;
 use crate::shim::time::Instant;
@@ -15,6 +16,17 @@ use crate::vsock::muxer::muxer_rxq::MuxerRxQ;
 use crate::vsock::{VsockChannel, VsockEpollListener};
 
 const BLOCKED: [Answer; 2] = [Answer::WouldBlock; 2];
+
+/// One byte more than a packet may have.
+const LONG: usize = MAX_PKT_BUF_SIZE + 1;
+
+/// A number with its thousands apart, as the documents write it.
+fn apart(n: usize) -> String {
+    match n {
+        0..1_000 => n.to_string(),
+        _ => format!("{},{:03}", apart(n / 1_000), n % 1_000),
+    }
+}
 
 /// R 16, T 4, timeouts 2,000, as in 01's readings; everything else 0.
 fn conn(state: State) -> Conn {
@@ -64,7 +76,7 @@ fn op_of(hdr: &HdrBytes) -> (u16, u32) {
 
 fn recv(rust: &mut VsockConnection, buf: &mut [u8], read: Answer) -> (u16, u32) {
     let mut hdr = header(0, 0, 0);
-    stream::lying(BLOCKED, read, &[7; 65_537], || {
+    stream::lying(BLOCKED, read, &[7; LONG], || {
         rust.recv_pkt(&mut hdr.packet(Some(buf))).is_ok()
     });
     op_of(&hdr)
@@ -80,10 +92,13 @@ pub fn all(output: &mut impl Write) -> Result<()> {
 }
 
 fn rings(say: &mut impl FnMut(String) -> Result<()>) -> Result<()> {
-    settings::set_ring(65_536);
-    let pushed = calls::rust_ring(&calls::ring_of(65_536, 0, 0), &[]).push(&[0; 65_537]);
+    let size = MAX_PKT_BUF_SIZE as u32;
+    settings::set_ring(size);
+    let pushed = calls::rust_ring(&calls::ring_of(size, 0, 0), &[]).push(&[0; LONG]);
     say(format!(
-        "push of 65,537 bytes on an empty ring of 65,536: {pushed:?}"
+        "push of {} bytes on an empty ring of {}: {pushed:?}",
+        apart(LONG),
+        apart(MAX_PKT_BUF_SIZE)
     ))?;
     settings::set_ring(16);
     let long = calls::rust_ring(&calls::ring_of(16, 17, 0), &[7; 16]).len();
@@ -111,10 +126,12 @@ fn connections(say: &mut impl FnMut(String) -> Result<()>) -> Result<()> {
     say(format!(
         "read of 1 byte that says 2: op and len {said:?}, sent {sent}"
     ))?;
-    reads.peer_buf_alloc = 65_537;
-    let said = recv(&mut rust(&reads), &mut [0; 65_537], Answer::Count(65_537));
+    let long = Answer::Count(LONG as u64);
+    reads.peer_buf_alloc = LONG as u32;
+    let said = recv(&mut rust(&reads), &mut [0; LONG], long);
     say(format!(
-        "receive with a buffer of 65,537: op and len {said:?}"
+        "receive with a buffer of {}: op and len {said:?}",
+        apart(LONG)
     ))?;
     for state in [State::Established, State::Killed] {
         let mut c = rust(&conn(state));
@@ -125,16 +142,18 @@ fn connections(say: &mut impl FnMut(String) -> Result<()>) -> Result<()> {
         ))?;
     }
     let mut timed = conn(State::Established);
-    timed.expiry = Some(MAX_CLOCK + 2);
-    Instant::set_now(MAX_CLOCK + 1);
+    timed.expiry = Some(MAX_CLOCK_MS + 2);
+    Instant::set_now(MAX_CLOCK_MS + 1);
+    let log = MAX_CLOCK_MS.ilog2();
     say(format!(
-        "will_expire of 2^62 + 2 at 2^62 + 1: {}",
+        "will_expire of 2^{log} + 2 at 2^{log} + 1: {}",
         rust(&timed).will_expire()
     ))?;
     let mut c = rust(&conn(State::Established));
-    let all = [Answer::Count(65_537); 2];
-    let (count, _) = stream::lying(all, Answer::Failed, &[], || c.send_bytes_raw(&[0; 65_537]));
-    say(format!("raw send of 65,537 bytes: {count:?}"))
+    let (count, _) = stream::lying([long; 2], Answer::Failed, &[], || {
+        c.send_bytes_raw(&[0; LONG])
+    });
+    say(format!("raw send of {} bytes: {count:?}", apart(LONG)))
 }
 
 fn readings(say: &mut impl FnMut(String) -> Result<()>) -> Result<()> {
@@ -196,25 +215,26 @@ fn slots(marks: &[u64]) -> Vec<Slot> {
 }
 
 fn queues(say: &mut impl FnMut(String) -> Result<()>) -> Result<()> {
-    settings::set_rxq(256);
-    let pending = calls::conn_map(&slots(&[8; 513]), |slot, conn| {
+    settings::set_rxq(MAX_RXQ_SIZE);
+    let many = MAX_CONNECTIONS + 1;
+    let pending = calls::conn_map(&slots(&vec![8; many]), |slot, conn| {
         conn.pending = slot.mark as u8
     });
     let built = MuxerRxQ::from_conn_map(&pending);
     say(format!(
-        "a build of 513 slots: {} items, synced {}",
+        "a build of {many} slots: {} items, synced {}",
         built.q.len(),
         built.synced
     ))?;
-    settings::set_killq(128);
+    settings::set_killq(MAX_KILLQ_SIZE);
     Instant::set_now(0);
-    for n in 2..=128 {
+    for n in 2..=MAX_KILLQ_SIZE {
         for pattern in 1..2_000u64 {
             let mixed = pattern.wrapping_mul(0x9e37_79b9_7f4a_7c15);
             let times: Vec<u64> = (0..n).map(|i| 1 + (mixed >> (i % 64) & 1)).collect();
             let slots = slots(&times);
             let map = calls::conn_map(&slots, |slot, conn| conn.expiry = Some(slot.mark));
-            let built = calls::killq_read(&MuxerKillQ::from_conn_map(&map), 128);
+            let built = calls::killq_read(&MuxerKillQ::from_conn_map(&map), n as u64);
             if calls::ties_by_slot(built.clone(), &slots) != built {
                 return say(format!("ties: {n} slots at {times:?}: not in slot order"));
             }

@@ -4,6 +4,7 @@ mod beyond;
 mod calls;
 mod entries;
 mod frame;
+mod limits;
 mod make;
 mod record;
 mod settings;

@@ -1,12 +1,10 @@
-//! The records of 01, from and to frames, and when each is sound.
-use crate::frame::{at, Frame, MARKS, PLACES, PORTS, USED};
+//! The records of 01, from and to frames, and when each is sound: rings and connections here.
+mod queue;
 
-pub const MAX_CLOCK: u64 = 1 << 62;
-pub const MAX_PACKET: usize = 65_536;
-pub const MAX_RXQ: u64 = 256;
-pub const MAX_KILLQ: u64 = 128;
-pub const MAX_SLOTS: usize = 512;
-pub const PLACE: usize = 20;
+pub use queue::{limits, table, Item, Queue, Slot};
+
+use crate::frame::{at, Frame};
+use crate::limits::*;
 
 #[derive(Clone, Copy, Debug, PartialEq)]
 pub enum State {
@@ -89,7 +87,7 @@ impl Ring {
     }
 
     pub fn is_size(size: u32) -> bool {
-        size.is_power_of_two() && (16..=65_536).contains(&size)
+        size.is_power_of_two() && (MIN_RING_SIZE..=MAX_RING_SIZE).contains(&size)
     }
 
     pub fn is_sound(&self) -> bool {
@@ -164,9 +162,9 @@ impl Conn {
     }
 
     pub fn has_settings(&self) -> bool {
-        let is_timeout = |ms| (1..=60_000).contains(&ms);
+        let is_timeout = |ms| (MIN_TIMEOUT_MS..=MAX_TIMEOUT_MS).contains(&ms);
         Ring::is_size(self.ring.size)
-            && (1..=self.ring.size).contains(&self.threshold)
+            && (MIN_THRESHOLD..=self.ring.size).contains(&self.threshold)
             && is_timeout(self.request_ms)
             && is_timeout(self.shutdown_ms)
     }
@@ -174,131 +172,4 @@ impl Conn {
     pub fn is_sound(&self) -> bool {
         self.has_settings() && self.ring.is_sound()
     }
-}
-
-#[derive(Clone, Copy, Debug, Default, PartialEq)]
-pub struct Item {
-    pub rst: bool,
-    pub local_port: u32,
-    pub peer_port: u32,
-    pub time: u64,
-}
-
-impl Item {
-    fn read(place: &[u8]) -> Self {
-        Item {
-            rst: place[0] != 0,
-            local_port: u32::from_le_bytes(place[4..8].try_into().unwrap()),
-            peer_port: u32::from_le_bytes(place[8..12].try_into().unwrap()),
-            time: u64::from_le_bytes(place[12..20].try_into().unwrap()),
-        }
-    }
-
-    fn bytes(&self) -> [u8; PLACE] {
-        let mut place = [0; PLACE];
-        place[0] = self.rst as u8;
-        place[4..8].copy_from_slice(&self.local_port.to_le_bytes());
-        place[8..12].copy_from_slice(&self.peer_port.to_le_bytes());
-        place[12..20].copy_from_slice(&self.time.to_le_bytes());
-        place
-    }
-}
-
-/// A queue: its places are those up to the last that is not the zero item.
-#[derive(Clone, Debug, PartialEq)]
-pub struct Queue {
-    pub limit: u64,
-    pub len: u64,
-    pub synced: bool,
-    pub places: Vec<Item>,
-}
-
-impl Queue {
-    pub fn empty(limit: u64) -> Self {
-        Queue::of(limit, true, vec![])
-    }
-
-    pub fn of(limit: u64, synced: bool, items: Vec<Item>) -> Self {
-        Queue {
-            limit,
-            len: items.len() as u64,
-            synced,
-            places: items,
-        }
-    }
-
-    pub fn read(frame: &Frame) -> Self {
-        Queue {
-            limit: frame.u64(at::LIMIT),
-            len: frame.u64(at::QUEUE_LEN),
-            synced: frame.yes(at::SYNCED),
-            places: frame.runs[PLACES].chunks(PLACE).map(Item::read).collect(),
-        }
-    }
-
-    /// The run of places ends at the last that is not the zero item.
-    pub fn put(&self, frame: &mut Frame) {
-        frame.set_u64(at::LIMIT, self.limit);
-        frame.set_u64(at::QUEUE_LEN, self.len);
-        frame.set_yes(at::SYNCED, self.synced);
-        let zero = Item::default();
-        let end = self.places.iter().rposition(|item| *item != zero);
-        let places = &self.places[..end.map_or(0, |last| last + 1)];
-        frame.runs[PLACES] = places.iter().flat_map(Item::bytes).collect();
-    }
-
-    pub fn is_sound(&self, most: u64) -> bool {
-        let zero = Item::default();
-        (1..=most).contains(&self.limit)
-            && self.len <= self.limit
-            && self
-                .places
-                .iter()
-                .skip(self.len as usize)
-                .all(|i| *i == zero)
-    }
-
-    /// The items of a sound queue, the zero items at its rear too.
-    pub fn items(&self) -> Vec<Item> {
-        let mut items = self.places.clone();
-        items.resize(self.len as usize, Item::default());
-        items
-    }
-}
-
-#[derive(Clone, Copy, Debug, PartialEq)]
-pub struct Slot {
-    pub used: bool,
-    pub local_port: u32,
-    pub peer_port: u32,
-    /// What is pending, or a time; 0 is none.
-    pub mark: u64,
-}
-
-/// The slots of a frame's table, if it is sound; the marks are bytes, or numbers of 8.
-pub fn table(frame: &Frame, wide: bool) -> Option<Vec<Slot>> {
-    let number = |bytes: &[u8]| u64::from_le_bytes(bytes.try_into().unwrap());
-    let ports: Vec<u64> = frame.runs[PORTS].chunks_exact(8).map(number).collect();
-    let marks: Vec<u64> = match wide {
-        true => frame.runs[MARKS].chunks_exact(8).map(number).collect(),
-        false => frame.runs[MARKS].iter().map(|b| *b as u64).collect(),
-    };
-    let used = &frame.runs[USED];
-    if !(1..=MAX_SLOTS).contains(&ports.len())
-        || used.len() != ports.len()
-        || marks.len() != used.len()
-    {
-        return None;
-    }
-    let mut seen = std::collections::HashSet::new();
-    if (0..ports.len()).any(|i| used[i] != 0 && !seen.insert(ports[i])) {
-        return None;
-    }
-    let slot = |i: usize| Slot {
-        used: used[i] != 0,
-        local_port: (ports[i] >> 32) as u32,
-        peer_port: ports[i] as u32,
-        mark: marks[i],
-    };
-    Some((0..ports.len()).map(slot).collect())
 }

@@ -1,0 +1,8 @@
+//! Walks.
+use super::Maker;
+
+impl Maker {
+    pub(super) fn in_gentle_walk(&self) -> bool {
+        self.walks && self.gentle
+    }
+}
