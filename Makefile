@@ -26,7 +26,7 @@ vectors:
 
 # The port beside the original Rust, call by call (oracle/README.md): by default a new seed.
 SEED ?= $(shell date +%s%N)
-CALLS ?= 20000
+CALLS ?= 200000
 compare:
 	oracle/compare.sh $(SEED) $(CALLS)
 

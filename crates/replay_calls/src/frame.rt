@@ -3,12 +3,13 @@
 ghost use Rattle.io.specs.Counts.{Counts};
 use defs::Answer;
 use defs::StreamAnswer;
+use defs::limits::MAX_PKT_BUF_SIZE;
 
 pub const HEAD: usize = 144;
 
 // As much as any run holds: a ring, a packet or a table, and a little more for those that are
 // refused.
-pub const ROOM: usize = 65600;
+pub const ROOM: usize = MAX_PKT_BUF_SIZE + 64;
 
 // ---- reading: a place that the frame does not have reads as 0
 

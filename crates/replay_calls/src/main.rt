@@ -2,13 +2,20 @@
 // a frame with the answer and everything that the call left. oracle/FRAMES.md says what stands
 // where, docs/TESTING.md who made the calls and the replies that are compared.
 ghost use mathlib.Core.Path.{_≡_};
+ghost use Prim.Native.Nat.{_+_};
 ghost use lib.ListN.{length};
+ghost use Rattle.defs.specs.Limits.{maxPacket};
 
+mod ask_calls;
 mod conn_calls;
+mod conn_record;
 mod frame;
 mod hdr_calls;
-mod queue_calls;
+mod killq_calls;
+mod queue_record;
 mod ring_calls;
+mod rxq_calls;
+mod slots;
 
 // More calls than any run of it is given: a program's loop has an end.
 const MOST: u64 = 1000000000000;
@@ -23,7 +30,7 @@ fn main() {
 }
 
 fn room() -> [u8; frame::ROOM]
-    ensures { λ r. ⌜ 65600 ≡ length r ⌝ }
+    ensures { λ r. ⌜ (maxPacket + 64) ≡ length r ⌝ }
 {
     [0u8; frame::ROOM]
 }
@@ -111,9 +118,11 @@ fn call(
 ) {
     let entry = frame::byte_at(head, 0);
     match entry {
-        1..=6 => ring_calls::call(entry, head, storage, bytes, out),
+        1..=7 => ring_calls::call(entry, head, storage, bytes, out),
         11..=23 => conn_calls::call(entry, head, storage, hdr, buf, bytes, out),
-        31..=48 => queue_calls::call(entry, head, storage, hdr, buf, bytes),
+        24..=27 => ask_calls::call(entry, head, storage, hdr, buf, bytes),
+        31..=39 => rxq_calls::call(entry, head, storage, hdr, buf, bytes),
+        41..=49 => killq_calls::call(entry, head, storage, hdr, buf, bytes),
         51..=52 => hdr_calls::call(entry, head, hdr),
         _ => {}
     }

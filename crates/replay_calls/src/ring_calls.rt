@@ -1,4 +1,4 @@
-// The ring's entries, 1 to 6. The storage is the first run, a push's bytes the fourth, the
+// The ring's entries, 1 to 7. The storage is the first run, a push's bytes the fourth, the
 // outgoing buffer the fifth; the piece that is handed back is the fourth of the reply.
 use crate::frame;
 use defs::Answer;
@@ -26,7 +26,8 @@ pub fn call(entry: u8, head: &[u8], storage: &mut [u8], bytes: &[u8], out: &mut 
         3 => is_empty(head, storage, out),
         4 => push(head, storage, bytes, out),
         5 => flush_to(head, storage, out),
-        _ => first_piece(head, storage, out),
+        6 => first_piece(head, storage, out),
+        _ => second_piece(head, storage, out),
     }
 }
 
@@ -93,5 +94,11 @@ fn flush_to(head: &[u8], storage: &[u8], out: &mut [u8]) {
 fn first_piece(head: &[u8], storage: &[u8], out: &[u8]) {
     let ring = ring_of(head);
     let piece = ring.first_piece(storage);
+    write(head, Answer::Done, 0, ring, storage, piece, out);
+}
+
+fn second_piece(head: &[u8], storage: &[u8], out: &[u8]) {
+    let ring = ring_of(head);
+    let piece = ring.second_piece(storage);
     write(head, Answer::Done, 0, ring, storage, piece, out);
 }

@@ -50,7 +50,7 @@ fn now(rust: &VsockConnection) -> Conn {
 }
 
 fn header(op: u16, len: u32, flags: u32) -> HdrBytes {
-    let mut hdr = [0u8; 44];
+    let mut hdr = [0u8; VSOCK_PKT_HDR_SIZE];
     hdr[24..28].copy_from_slice(&len.to_le_bytes());
     hdr[30..32].copy_from_slice(&op.to_le_bytes());
     hdr[32..36].copy_from_slice(&flags.to_le_bytes());

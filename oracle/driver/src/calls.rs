@@ -1,5 +1,6 @@
 //! Runs a call through the Rust. A call that 01 refuses by 1 to 6 is outside of what is compared:
 //! its reply is what 01 says, the number and nothing changed, and is marked so.
+mod ask;
 mod conn;
 mod hdr;
 mod killq;
@@ -22,10 +23,10 @@ use crate::vsock::csm::Error;
 
 pub fn reply(call: &Frame) -> Frame {
     match call.entry() {
-        RING_NEW..=RING_FIRST_PIECE => ring::ring(call),
-        NEW_PEER_INIT..=STATE => conn::conn(call),
+        RING_NEW..=RING_SECOND_PIECE => ring::ring(call),
+        NEW_PEER_INIT..=RAW_ASKED => conn::conn(call),
         RXQ_NEW..=RXQ_IS_FULL => rxq::rxq(call),
-        KILLQ_NEW..=KILLQ_ITEM_EQ => killq::killq(call),
+        KILLQ_NEW..=KILLQ_PEEK => killq::killq(call),
         _ => hdr::hdr(call),
     }
 }

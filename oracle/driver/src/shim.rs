@@ -20,8 +20,12 @@ pub mod time {
             NOW.get()
         }
 
+        pub fn set(now: Instant) {
+            NOW.set(now)
+        }
+
         pub fn set_now(ms: u64) {
-            NOW.set(Instant::at_ms(ms))
+            Instant::set(Instant::at_ms(ms))
         }
 
         pub fn at_ms(ms: u64) -> Instant {

@@ -4,6 +4,7 @@ use std::fmt::Write;
 use crate::calls;
 use crate::entries::*;
 use crate::frame::*;
+use crate::limits::*;
 use crate::record::*;
 use crate::stream::Answer;
 
@@ -63,19 +64,19 @@ fn queue(frame: &Frame) -> String {
 /// What both a call and a reply have: the record and the runs.
 fn body(frame: &Frame) -> String {
     let mut text = match frame.entry() {
-        RING_NEW..=RING_FIRST_PIECE => {
+        RING_NEW..=RING_SECOND_PIECE => {
             let ring = Ring::read(frame);
             format!(
                 "  R {}, head {}, tail {}\n",
                 ring.size, ring.head, ring.tail
             )
         }
-        NEW_PEER_INIT..=STATE => conn(frame),
-        RXQ_NEW..=KILLQ_ITEM_EQ => queue(frame),
+        NEW_PEER_INIT..=RAW_ASKED => conn(frame),
+        RXQ_NEW..=KILLQ_PEEK => queue(frame),
         _ => format!("  head {}\n", hex(&frame.head[..])),
     };
     let names = match frame.entry() {
-        RXQ_NEW..=KILLQ_ITEM_EQ => ["", "ports", "used", "pending or times", ""],
+        RXQ_NEW..=KILLQ_PEEK => ["", "ports", "used", "pending or times", ""],
         _ => ["storage", "header", "buffer", "bytes", "outgoing"],
     };
     for (name, run) in names.iter().zip(&frame.runs) {
@@ -111,12 +112,12 @@ fn arguments(frame: &Frame) -> String {
     let (local_port, peer_port) = (frame.u32(at::LOCAL_PORT), frame.u32(at::PEER_PORT));
     match frame.entry() {
         RING_FLUSH_TO => format!("  stream: {first}, then {second}"),
-        SEND_PKT => format!(
+        SEND_PKT | SEND_ASKED => format!(
             "  clock {clock}, {present}, {}\n  stream: {first}, then {second}",
             packet(&frame.runs[HDR])
         ),
-        RECV_PKT => format!("  clock {clock}, {present}, read: {first}"),
-        NOTIFY => format!(
+        RECV_PKT | RECV_ASKED => format!("  clock {clock}, {present}, read: {first}"),
+        NOTIFY | NOTIFY_ASKED => format!(
             "  in {}, out {}, stream: {first}, then {second}",
             frame.yes(at::READABLE),
             frame.yes(at::WRITABLE)
@@ -140,7 +141,7 @@ fn arguments(frame: &Frame) -> String {
 }
 
 fn packet(hdr: &[u8]) -> String {
-    if hdr.len() != 44 {
+    if hdr.len() != VSOCK_PKT_HDR_SIZE {
         return format!("a header of {} bytes", hdr.len());
     }
     let number = |place: usize| u32::from_le_bytes(hdr[place..place + 4].try_into().unwrap());

@@ -26,8 +26,10 @@ struct Script {
 pub struct Seen {
     /// The bytes that it took.
     pub taken: Vec<u8>,
-    /// The bytes that were offered first.
-    pub offered: Option<Vec<u8>>,
+    /// What each write offered.
+    pub offered: Vec<Vec<u8>>,
+    /// For how many bytes a read asked, if there was one.
+    pub asked: Option<usize>,
     /// An answer was reached that counts more than was asked, or more than the bytes supplied.
     pub bad: bool,
 }
@@ -42,6 +44,12 @@ pub fn during<T>(
     call: impl FnOnce() -> T,
 ) -> (T, Seen) {
     scripted(writes, read, read_bytes, false, call)
+}
+
+/// The same with a stream that takes all of a first write, then blocks: to see what is offered.
+pub fn offers(call: impl FnOnce()) -> Seen {
+    let writes = [Answer::Count(u64::MAX), Answer::WouldBlock];
+    scripted(writes, Answer::WouldBlock, &[], false, call).1
 }
 
 /// The same with a stream that gives its counts as they are, also where they are too large.
@@ -82,7 +90,7 @@ impl Write for Scripted {
     fn write(&mut self, bytes: &[u8]) -> Result<usize> {
         SCRIPT.with_borrow_mut(|script| {
             assert!(!script.writes.is_empty(), "a third write");
-            script.seen.offered.get_or_insert_with(|| bytes.to_vec());
+            script.seen.offered.push(bytes.to_vec());
             match script.writes.remove(0) {
                 Answer::Count(count) => {
                     script.seen.bad |= count > bytes.len() as u64;
@@ -103,16 +111,19 @@ impl Write for Scripted {
 
 impl Read for Scripted {
     fn read(&mut self, room: &mut [u8]) -> Result<usize> {
-        SCRIPT.with_borrow_mut(|script| match script.read.take().expect("a second read") {
-            Answer::Count(count) => {
-                let most = room.len().min(script.read_bytes.len());
-                script.seen.bad |= count > most as u64;
-                let read = count.min(most as u64) as usize;
-                room[..read].copy_from_slice(&script.read_bytes[..read]);
-                Ok(if script.lies { count as usize } else { read })
+        SCRIPT.with_borrow_mut(|script| {
+            script.seen.asked = Some(room.len());
+            match script.read.take().expect("a second read") {
+                Answer::Count(count) => {
+                    let most = room.len().min(script.read_bytes.len());
+                    script.seen.bad |= count > most as u64;
+                    let read = count.min(most as u64) as usize;
+                    room[..read].copy_from_slice(&script.read_bytes[..read]);
+                    Ok(if script.lies { count as usize } else { read })
+                }
+                Answer::WouldBlock => stopped(ErrorKind::WouldBlock),
+                Answer::Failed => stopped(ErrorKind::Other),
             }
-            Answer::WouldBlock => stopped(ErrorKind::WouldBlock),
-            Answer::Failed => stopped(ErrorKind::Other),
         })
     }
 }

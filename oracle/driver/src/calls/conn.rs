@@ -1,4 +1,5 @@
 //! A connection's calls that change it.
+use super::ask::asked;
 use super::look::seen_of;
 use super::{answered, flushed, late, take};
 use crate::entries::*;
@@ -19,27 +20,31 @@ fn conn_door(call: &Frame, conn: &Conn) -> u8 {
     let entry = call.entry();
     let sound = match entry {
         NEW_PEER_INIT | NEW_LOCAL_INIT => conn.has_settings(),
-        SEND_PKT | NOTIFY => conn.is_sound() && call.runs[STORAGE].len() == conn.ring.size as usize,
+        SEND_PKT | NOTIFY | SEND_ASKED | NOTIFY_ASKED => {
+            conn.is_sound() && call.runs[STORAGE].len() == conn.ring.size as usize
+        }
         _ => conn.is_sound(),
     };
     let hdr = &call.runs[HDR];
     let buf = &call.runs[BUF];
-    let packet = matches!(entry, SEND_PKT | RECV_PKT);
+    let packet = matches!(entry, SEND_PKT | RECV_PKT | SEND_ASKED | RECV_ASKED);
     let timed = packet || matches!(entry, WILL_EXPIRE | HAS_EXPIRED);
     if !sound {
         return 1;
     }
-    if packet && hdr.len() != 44 {
+    if packet && hdr.len() != VSOCK_PKT_HDR_SIZE {
         return 2;
     }
     if timed && call.u64(at::CLOCK) > MAX_CLOCK_MS {
         return 3;
     }
     let long = match entry {
-        SEND_BYTES_RAW => call.runs[BYTES].len() > MAX_PKT_BUF_SIZE,
-        SEND_PKT | RECV_PKT if !call.yes(at::PRESENT) => false,
-        SEND_PKT => buf.len() > MAX_PKT_BUF_SIZE || op(hdr) == RW && len(hdr) as usize > buf.len(),
-        RECV_PKT => buf.len() > MAX_PKT_BUF_SIZE,
+        SEND_BYTES_RAW | RAW_ASKED => call.runs[BYTES].len() > MAX_PKT_BUF_SIZE,
+        _ if packet && !call.yes(at::PRESENT) => false,
+        SEND_PKT | SEND_ASKED => {
+            buf.len() > MAX_PKT_BUF_SIZE || op(hdr) == RW && len(hdr) as usize > buf.len()
+        }
+        RECV_PKT | RECV_ASKED => buf.len() > MAX_PKT_BUF_SIZE,
         _ => false,
     };
     if long {
@@ -88,7 +93,10 @@ pub(super) fn conn(call: &Frame) -> Frame {
     let opening = matches!(entry, NEW_PEER_INIT | NEW_LOCAL_INIT);
     let refusal = conn_door(call, &was);
     if refusal != 0 {
-        return conn_left(call, refusal, &if opening { zero_conn() } else { was });
+        return match entry {
+            SEND_ASKED..=RAW_ASKED => answered(call, refusal),
+            _ => conn_left(call, refusal, &if opening { zero_conn() } else { was }),
+        };
     }
     settings::set_ring(was.ring.size);
     settings::set_conn(was.threshold, was.request_ms, was.shutdown_ms);
@@ -104,6 +112,7 @@ pub(super) fn conn(call: &Frame) -> Frame {
             rust.kill();
             conn_left(call, 0, &conn_probe::read(&rust, &was, &mut vec![]))
         }
+        SEND_ASKED..=RAW_ASKED => asked(call, &was),
         _ => seen_of(call, &was),
     }
 }
@@ -181,6 +190,13 @@ fn received(call: &Frame, was: &Conn) -> Frame {
 
 fn notified(call: &Frame, was: &Conn) -> Frame {
     let mut rust = conn_probe::make(was, &call.runs[STORAGE]);
+    let events = events(call);
+    let (_, seen) = stream::during(call.answers(), Answer::Failed, &[], || rust.notify(events));
+    wrote(call, was, &rust, &seen)
+}
+
+/// The events of a call.
+pub(super) fn events(call: &Frame) -> epoll::Events {
     let mut events = epoll::Events::empty();
     if call.yes(at::READABLE) {
         events.insert(epoll::Events::EPOLLIN);
@@ -188,8 +204,7 @@ fn notified(call: &Frame, was: &Conn) -> Frame {
     if call.yes(at::WRITABLE) {
         events.insert(epoll::Events::EPOLLOUT);
     }
-    let (_, seen) = stream::during(call.answers(), Answer::Failed, &[], || rust.notify(events));
-    wrote(call, was, &rust, &seen)
+    events
 }
 
 fn raw_sent(call: &Frame, was: &Conn) -> Frame {

@@ -2,14 +2,22 @@
 use super::answered;
 use crate::entries::*;
 use crate::frame::*;
+use crate::limits::*;
 use crate::vsock::csm::connection::probe::hdr_probe;
 
 /// The fields stand at the places of a connection's record.
 pub(super) fn hdr(call: &Frame) -> Frame {
     let bytes = &call.runs[HDR];
-    let mut reply = answered(call, if bytes.len() == 44 { 0 } else { 2 });
+    let mut reply = answered(
+        call,
+        if bytes.len() == VSOCK_PKT_HDR_SIZE {
+            0
+        } else {
+            2
+        },
+    );
     reply.runs[HDR] = bytes.clone();
-    if bytes.len() != 44 {
+    if bytes.len() != VSOCK_PKT_HDR_SIZE {
         return reply;
     }
     if call.entry() == HDR_READ {

@@ -6,7 +6,7 @@ use crate::frame::*;
 use crate::limits::*;
 use crate::record::{limits, table, Item, Queue, Slot};
 use crate::settings;
-use crate::shim::time::Instant;
+use crate::shim::time::{Duration, Instant};
 use crate::vsock::muxer::muxer_impl::probe as key_probe;
 use crate::vsock::muxer::muxer_killq::{MuxerKillQ, MuxerKillQItem};
 
@@ -46,7 +46,7 @@ pub(super) fn killq(call: &Frame) -> Frame {
     };
     if door != 0 {
         return match entry {
-            KILLQ_PUSH | KILLQ_POP => queue_left(call, door, &queue),
+            KILLQ_PUSH | KILLQ_POP | KILLQ_PEEK => queue_left(call, door, &queue),
             _ => answered(call, door),
         };
     }
@@ -78,10 +78,31 @@ pub(super) fn killq(call: &Frame) -> Frame {
             }
             reply
         }
+        KILLQ_PEEK => peeked(call, &queue, rust),
         KILLQ_IS_SYNCED => told(call, rust.is_synced()),
         KILLQ_IS_EMPTY => told(call, rust.is_empty()),
         _ => told(call, rust.is_full()),
     }
+}
+
+/// The Rust has no such call: the front is what a pop takes just after its time, and not at it.
+fn peeked(call: &Frame, queue: &Queue, mut rust: MuxerKillQ) -> Frame {
+    let mut reply = queue_left(call, 0, queue);
+    let Some(time) = rust.q.front().map(|item| item.kill_time) else {
+        return reply;
+    };
+    Instant::set(time);
+    assert!(rust.pop().is_none());
+    Instant::set(time + Duration::from_nanos(1));
+    let (local_port, peer_port) = key_probe::ports(&rust.pop().expect("a front"));
+    let item = Item {
+        local_port,
+        peer_port,
+        ..Item::default()
+    };
+    put_found(&mut reply, item);
+    reply.set_u64(at::TIME, time.ms());
+    reply
 }
 
 fn one(call: &Frame) -> Item {

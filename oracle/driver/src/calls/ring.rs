@@ -32,18 +32,16 @@ pub(super) fn ring(call: &Frame) -> Frame {
         RING_LEN | RING_IS_EMPTY if !ring.is_sound() => left(1, &ring),
         RING_LEN => valued(left(0, &ring), tx_buf().len() as u64),
         RING_IS_EMPTY => valued(left(0, &ring), tx_buf().is_empty() as u64),
-        RING_FIRST_PIECE if !over => {
+        RING_FIRST_PIECE | RING_SECOND_PIECE if !over => {
             let mut reply = left(0, &ring);
             reply.set_u8(at::MARK, BY_01);
             reply
         }
-        RING_FIRST_PIECE => {
-            let nothing = [Answer::Failed; 2];
-            let (_, seen) = stream::during(nothing, Answer::Failed, &[], || {
-                tx_buf().flush_to(&mut Scripted).is_ok()
-            });
+        RING_FIRST_PIECE | RING_SECOND_PIECE => {
+            let seen = stream::offers(|| drop(tx_buf().flush_to(&mut Scripted)));
+            let piece = (call.entry() - RING_FIRST_PIECE) as usize;
             let mut reply = left(0, &ring);
-            reply.runs[BYTES] = seen.offered.unwrap_or_default();
+            reply.runs[BYTES] = seen.offered.get(piece).cloned().unwrap_or_default();
             reply
         }
         _ if !over => left(1, &ring),

@@ -1,4 +1,5 @@
 //! Connections, and the calls on one.
+use super::walks::Mood;
 use super::Maker;
 use crate::entries::*;
 use crate::frame::*;
@@ -11,26 +12,25 @@ impl Maker {
         let size = ring.size;
         let threshold = match self.below(40) {
             0 => self.pick(&[0, size.wrapping_add(1)]),
+            1..20 => self.even(1, size.max(1) as u64) as u32,
             _ => self.pick(&[1, 4, size / 2, size.wrapping_sub(1), size]),
         };
         let fwd_cnt = self.counter(size);
         let less = size.wrapping_sub(threshold);
-        let ahead = [
-            0,
-            less.wrapping_sub(1),
-            less,
-            less.wrapping_add(1),
-            size,
-            size.wrapping_add(1),
-            3,
-        ];
+        let ahead = match self.below(4) {
+            0 => self.even(0, size as u64) as u32,
+            1 => self.pick(&[0, 3, size, size.wrapping_add(1)]),
+            _ => self.pick(&[less.wrapping_sub(1), less, less.wrapping_add(1)]),
+        };
         let rx_cnt = self.counter(size);
         let peer_fwd_cnt = self.counter(size);
         let credit = self.credit();
-        let expiry = match self.below(4) {
-            0..2 => None,
-            2 => Some(self.pick(&[0, 1, MAX_CLOCK_MS, MAX_CLOCK_MS + 60_000, u64::MAX])),
-            _ => Some(self.below(5_000)),
+        let late = [0, 1, MAX_CLOCK_MS, MAX_CLOCK_MS + MAX_TIMEOUT_MS, u64::MAX];
+        let expiry = match self.below(8) {
+            0..4 => None,
+            4 => Some(self.pick(&late)),
+            5 => Some(self.below(5_000)),
+            _ => Some(self.length(u64::MAX)),
         };
         let pending = self.below(32) as u8;
         let conn = Conn {
@@ -38,15 +38,15 @@ impl Maker {
             request_ms: self.timeout(),
             shutdown_ms: self.timeout(),
             state: self.state(),
-            local_cid: self.pick(&[0, 2, 3, u64::MAX]),
-            peer_cid: self.pick(&[0, 3, 1 << 32, u64::MAX]),
+            local_cid: self.cid(),
+            peer_cid: self.cid(),
             local_port: self.counter(size),
             peer_port: self.counter(size),
             fwd_cnt,
             peer_buf_alloc: credit.wrapping_add(rx_cnt.wrapping_sub(peer_fwd_cnt)),
             peer_fwd_cnt,
             rx_cnt,
-            last_fwd_cnt_to_peer: fwd_cnt.wrapping_sub(self.pick(&ahead)),
+            last_fwd_cnt_to_peer: fwd_cnt.wrapping_sub(ahead),
             pending: self.pick(&[0, 8, 8, 24, 16, pending, pending, pending]),
             expiry,
             ring,
@@ -54,14 +54,28 @@ impl Maker {
         (conn, self.storage(size))
     }
 
-    pub(super) fn timeout(&mut self) -> u64 {
+    fn timeout(&mut self) -> u64 {
         match self.below(60) {
-            0 => self.pick(&[0, 60_001, u64::MAX]),
-            _ => self.pick(&[1, 2_000, 2_000, 60_000]),
+            0 => self.pick(&[0, MAX_TIMEOUT_MS + 1, u64::MAX]),
+            _ => self.sound_timeout(),
         }
     }
 
-    pub(super) fn state(&mut self) -> State {
+    pub(super) fn sound_timeout(&mut self) -> u64 {
+        match self.one_in(2) {
+            true => self.even(MIN_TIMEOUT_MS, MAX_TIMEOUT_MS),
+            false => self.pick(&[MIN_TIMEOUT_MS, 2_000, MAX_TIMEOUT_MS]),
+        }
+    }
+
+    fn cid(&mut self) -> u64 {
+        match self.one_in(2) {
+            true => self.next(),
+            false => self.pick(&[0, 2, 3, 1 << 32, u64::MAX]),
+        }
+    }
+
+    fn state(&mut self) -> State {
         match self.below(12) {
             0 => State::LocalInit,
             1 => State::PeerInit,
@@ -73,38 +87,52 @@ impl Maker {
     }
 
     pub(super) fn credit(&mut self) -> u32 {
-        self.pick(&[0, 0, 1, 2, 7, 40, 65_535, 65_536, 65_537, u32::MAX - 1])
+        let most = MAX_PKT_BUF_SIZE as u32;
+        match self.one_in(2) {
+            true => self.length(u32::MAX as u64) as u32,
+            false => self.pick(&[0, 0, 1, 2, 7, 40, most - 1, most, most + 1, u32::MAX - 1]),
+        }
+    }
+
+    fn conn_entry(&mut self) -> u8 {
+        match self.below(100) {
+            0 if !self.is_long() => NEW_PEER_INIT,
+            1 if !self.is_long() => NEW_LOCAL_INIT,
+            0..32 => SEND_PKT,
+            32..58 => RECV_PKT,
+            58..76 => NOTIFY,
+            76..79 => SEND_BYTES_RAW,
+            79 if self.mood == Mood::Wild => KILL,
+            79..82 => HAS_PENDING_RX,
+            82..84 => GET_POLLED_EVSET,
+            84..86 => WILL_EXPIRE,
+            86..88 => HAS_EXPIRED,
+            88 => EXPIRY,
+            89 => STATE,
+            90..93 => SEND_ASKED,
+            93..96 => RECV_ASKED,
+            96..99 => NOTIFY_ASKED,
+            _ => RAW_ASKED,
+        }
     }
 
     pub(super) fn conn_call(&mut self) -> Frame {
-        let entry = match self.below(100) {
-            0 => NEW_PEER_INIT,
-            1 => NEW_LOCAL_INIT,
-            2..36 => SEND_PKT,
-            36..66 => RECV_PKT,
-            66..86 => NOTIFY,
-            86..89 => SEND_BYTES_RAW,
-            89 if self.in_gentle_walk() => RECV_PKT,
-            89 => KILL,
-            90..92 => HAS_PENDING_RX,
-            92..94 => GET_POLLED_EVSET,
-            94..96 => WILL_EXPIRE,
-            96..98 => HAS_EXPIRED,
-            98 => EXPIRY,
-            _ => STATE,
-        };
+        if self.walks {
+            self.mood = self.conns[self.walk].mood;
+        }
+        let entry = self.conn_entry();
         let opens = matches!(entry, NEW_PEER_INIT | NEW_LOCAL_INIT);
         let (conn, storage) = match self.walks && !opens {
-            true => self.conn.clone(),
+            true => self.conn_walk(),
             false => self.any_conn(),
         };
         let mut call = Frame::new(entry);
         conn.put(&mut call);
         call.runs[STORAGE] = storage;
         match entry {
-            SEND_PKT => self.packet_in(&mut call, &conn),
-            RECV_PKT => self.packet_out(&mut call, &conn),
-            NOTIFY => {
+            SEND_PKT | SEND_ASKED => self.packet_in(&mut call, &conn),
+            RECV_PKT | RECV_ASKED => self.packet_out(&mut call, &conn),
+            NOTIFY | NOTIFY_ASKED => {
                 let (held, first) = (conn.ring.held() as u64, conn.ring.first() as u64);
                 let answers = [self.answer(first), self.answer(held.saturating_sub(first))];
                 call.set_answers(answers);
@@ -112,9 +140,11 @@ impl Maker {
                 call.set_yes(at::WRITABLE, !self.one_in(6));
                 call.runs[OUT] = self.room(held);
             }
-            SEND_BYTES_RAW => {
+            SEND_BYTES_RAW | RAW_ASKED => {
+                let most = MAX_PKT_BUF_SIZE as u64;
                 let n = match self.below(60) {
-                    0 => self.pick(&[65_536, 65_537]),
+                    0 => most + self.below(2),
+                    1..30 => self.length(most),
                     _ => self.below(12),
                 };
                 call.runs[BYTES] = self.bytes(n as usize);

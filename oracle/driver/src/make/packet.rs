@@ -1,4 +1,5 @@
-//! Packets: what a send is given, and what a turn to speak is given.
+//! Packets: what a send is given, what a turn to speak is given, and headers by themselves.
+use super::walks::Mood;
 use super::Maker;
 use crate::entries::*;
 use crate::frame::*;
@@ -6,47 +7,24 @@ use crate::limits::*;
 use crate::record::Conn;
 use crate::stream::Answer;
 
+const MOST: u64 = MAX_PKT_BUF_SIZE as u64;
+
 impl Maker {
-    pub(super) fn hdr_bytes(&mut self) -> Vec<u8> {
-        match self.below(150) {
-            0 => {
-                let n = self.pick(&[0, 43, 45, 64]);
-                self.bytes(n)
-            }
-            _ => self.bytes(44),
-        }
+    fn hdr_bytes(&mut self, wrong: u64) -> Vec<u8> {
+        let n = match self.one_in(wrong) {
+            true => self.pick(&[0, VSOCK_PKT_HDR_SIZE - 1, VSOCK_PKT_HDR_SIZE + 1, 64]),
+            false => VSOCK_PKT_HDR_SIZE,
+        };
+        self.bytes(n)
     }
 
     /// A packet of the guest's.
     pub(super) fn packet_in(&mut self, call: &mut Frame, conn: &Conn) {
         let held = conn.ring.held() as u64;
-        let room = (conn.ring.size as u64)
-            .saturating_sub(held)
-            .min(MAX_PKT_BUF_SIZE as u64);
-        let gentle = self.in_gentle_walk();
-        let op = match self.below(10) {
-            0..6 => 5,
-            6..8 if !gentle || self.one_in(6) => 4,
-            _ => self.pick(&[0, 1, 2, 2, 3, 6, 7, 7, 8, 0x0105, 0x0502, u16::MAX]),
-        };
-        let len = match self.below(100) {
-            0 => self.pick(&[65_535, 65_536]),
-            1..30 => room + self.below(5),
-            _ => self.pick(&[
-                0,
-                1,
-                5,
-                room,
-                room,
-                room.saturating_sub(1),
-                room + 1,
-                2 * room,
-            ]),
-        };
-        let len = len.min(MAX_PKT_BUF_SIZE as u64);
-        let len = if gentle { len.min(room) } else { len };
+        let room = (conn.ring.size as u64).saturating_sub(held).min(MOST);
+        let len = self.payload(room);
         let buf_len = match self.below(60) {
-            0 => MAX_PKT_BUF_SIZE as u64 + self.below(2),
+            0 => MOST + self.below(2),
             1..4 => len.saturating_sub(1),
             4..10 => len + self.below(9),
             10 => 0,
@@ -64,25 +42,63 @@ impl Maker {
         call.set_yes(at::PRESENT, !self.one_in(12));
         call.runs[BUF] = self.bytes(buf_len as usize);
         call.runs[OUT] = self.room(len);
-        call.runs[HDR] = self.hdr_bytes();
-        if call.runs[HDR].len() != 44 {
-            return;
+        call.runs[HDR] = self.hdr_bytes(150);
+        if call.runs[HDR].len() == VSOCK_PKT_HDR_SIZE {
+            self.fill_hdr(&mut call.runs[HDR], conn, len);
         }
-        let flags = if self.one_in(8) {
-            self.next() as u32
-        } else {
-            self.below(4) as u32
+    }
+
+    /// The length of a packet: around what the ring has room for, or any.
+    fn payload(&mut self, room: u64) -> u64 {
+        let near = [
+            0,
+            1,
+            5,
+            room,
+            room,
+            room.saturating_sub(1),
+            room + 1,
+            2 * room,
+        ];
+        let len = match self.below(100) {
+            0..20 => self.length(MOST),
+            20..36 => room + self.below(5),
+            36..50 => self.even(0, room),
+            _ => self.pick(&near),
+        };
+        match self.mood {
+            Mood::Wild => len.min(MOST),
+            _ => len.min(room),
+        }
+    }
+
+    fn op(&mut self) -> u16 {
+        let shuts = match self.mood {
+            Mood::Wild => true,
+            Mood::Gentle => self.one_in(6),
+            Mood::Steady => false,
+        };
+        match self.below(20) {
+            0..12 => 5,
+            12..16 if shuts => 4,
+            16 if shuts => self.next() as u16,
+            _ => self.pick(&[0, 1, 2, 2, 3, 6, 7, 7, 8, 0x0105, 0x0502, u16::MAX]),
+        }
+    }
+
+    fn fill_hdr(&mut self, hdr: &mut [u8], conn: &Conn, len: u64) {
+        let op = self.op();
+        let flags = match self.one_in(8) {
+            true => self.next() as u32,
+            false => self.below(4) as u32,
         };
         let fwd_cnt = self.counter(conn.ring.size);
-        let alloc = self
-            .credit()
-            .wrapping_add(conn.rx_cnt.wrapping_sub(fwd_cnt));
-        let len = if self.one_in(80) {
-            self.next() as u32
-        } else {
-            len as u32
+        let outstanding = conn.rx_cnt.wrapping_sub(fwd_cnt);
+        let alloc = self.credit().wrapping_add(outstanding);
+        let len = match self.one_in(80) {
+            true => self.next() as u32,
+            false => len as u32,
         };
-        let hdr = &mut call.runs[HDR];
         hdr[24..28].copy_from_slice(&len.to_le_bytes());
         hdr[30..32].copy_from_slice(&op.to_le_bytes());
         hdr[32..36].copy_from_slice(&flags.to_le_bytes());
@@ -90,16 +106,22 @@ impl Maker {
         hdr[40..44].copy_from_slice(&fwd_cnt.to_le_bytes());
     }
 
-    /// A turn to speak.
+    /// A turn to speak. In a steady walk no read is of 0 bytes, as that would close the connection.
     pub(super) fn packet_out(&mut self, call: &mut Frame, conn: &Conn) {
+        let steady = self.mood == Mood::Steady;
         let buf_len = match self.below(100) {
-            0 => self.pick(&[65_535, 65_536, 65_536, 65_537]),
+            0 => self.pick(&[MOST - 1, MOST, MOST, MOST + 1]),
+            1..50 => self.length(MOST),
             _ => self.pick(&[0, 1, 2, 7, 8, 20, 40]),
         };
+        let buf_len = buf_len.max(steady as u64);
         let ask = buf_len.min(conn.credit() as u64);
-        let answer = self.answer(ask);
+        let answer = match self.answer(ask) {
+            Answer::Count(0) if steady => Answer::Count(ask),
+            answer => answer,
+        };
         let supplied = match answer {
-            Answer::Count(n) if n <= MAX_PKT_BUF_SIZE as u64 => match self.below(20) {
+            Answer::Count(n) if n <= MOST => match self.below(20) {
                 0 => n.saturating_sub(1),
                 1..4 => n + 3,
                 _ => n,
@@ -112,7 +134,7 @@ impl Maker {
         call.set_yes(at::PRESENT, !self.one_in(5));
         call.runs[BUF] = self.bytes(buf_len as usize);
         call.runs[BYTES] = self.bytes(supplied as usize);
-        call.runs[HDR] = self.hdr_bytes();
+        call.runs[HDR] = self.hdr_bytes(150);
     }
 
     pub(super) fn hdr_call(&mut self) -> Frame {
@@ -124,13 +146,7 @@ impl Maker {
         call.set_u32(at::TAIL_CNT, self.below(1 << 16) as u32);
         call.set_u64(at::LOCAL_CID, self.next());
         call.set_u64(at::PEER_CID, self.next());
-        call.runs[HDR] = match self.below(30) {
-            0 => {
-                let n = self.pick(&[0, 43, 45]);
-                self.bytes(n)
-            }
-            _ => self.bytes(44),
-        };
+        call.runs[HDR] = self.hdr_bytes(30);
         call
     }
 }

@@ -7,30 +7,34 @@ use crate::record::{limits, Item, Queue};
 
 impl Maker {
     pub(super) fn limit(&mut self, kill: bool) -> u64 {
-        let most = *limits(kill).end();
+        let (least, most) = limits(kill).into_inner();
         match self.below(40) {
             0 => self.pick(&[0, most + 1, u64::MAX]),
             1..4 => self.pick(&[most - 1, most]),
+            4..20 => self.even(least, most),
             _ => self.pick(&[1, 2, 3, 5, 8]),
         }
     }
 
-    pub(super) fn port(&mut self) -> u32 {
-        match self.below(8) {
-            0 => self.next() as u32,
-            _ => self.below(4) as u32,
+    fn port(&mut self) -> u32 {
+        match self.one_in(2) {
+            true => self.next() as u32,
+            false => self.below(4) as u32,
         }
     }
 
     pub(super) fn time(&mut self) -> u64 {
-        match self.below(8) {
-            0 => self.pick(&[MAX_CLOCK_MS - 1, MAX_CLOCK_MS, MAX_CLOCK_MS + 1, u64::MAX]),
+        let late = [MAX_CLOCK_MS - 1, MAX_CLOCK_MS, MAX_CLOCK_MS + 1, u64::MAX];
+        match self.below(16) {
+            0 => self.pick(&late),
             1 => 0,
-            _ => 2_998 + self.below(6),
+            2..8 => 2_998 + self.below(6),
+            8..12 => self.even(0, 20_000),
+            _ => self.length(u64::MAX),
         }
     }
 
-    pub(super) fn item(&mut self, kill: bool) -> Item {
+    fn item(&mut self, kill: bool) -> Item {
         Item {
             rst: !kill && self.one_in(2),
             local_port: self.port(),
@@ -39,19 +43,21 @@ impl Maker {
         }
     }
 
-    pub(super) fn any_queue(&mut self, kill: bool) -> Queue {
+    fn any_queue(&mut self, kill: bool) -> Queue {
         let most = *limits(kill).end();
         let limit = self.limit(kill);
         let places = limit.min(most);
         let n = match self.below(8) {
             0 => 0,
             1..4 => places,
-            _ => self.below(places + 1),
+            _ => self.even(0, places),
         };
-        let alike = !kill && self.one_in(6);
         let mut items: Vec<Item> = (0..n).map(|_| self.item(kill)).collect();
-        if alike {
+        if !kill && n > 0 && self.one_in(3) {
+            // All RSTs, half of the time with one connection anywhere.
             items.iter_mut().for_each(|item| item.rst = true);
+            let one = self.below(n) as usize;
+            items[one].rst = self.one_in(2);
         }
         let mut queue = Queue::of(limit, !self.one_in(3), items);
         match self.below(40) {
@@ -69,13 +75,9 @@ impl Maker {
     }
 
     pub(super) fn rxq_call(&mut self) -> Frame {
-        let queue = match self.walks {
-            true => self.rxq.clone(),
-            false => self.any_queue(false),
-        };
         let entry = match self.below(40) {
             0..2 => RXQ_NEW,
-            2..7 => RXQ_FROM_CONN_MAP,
+            2..7 => return self.build_call(false),
             7..23 => RXQ_PUSH,
             23..26 => RXQ_PEEK,
             26..32 => RXQ_POP,
@@ -85,58 +87,47 @@ impl Maker {
             _ => RXQ_IS_FULL,
         };
         let mut call = Frame::new(entry);
+        if entry == RXQ_NEW {
+            call.set_u64(at::LIMIT, self.limit(false));
+            return call;
+        }
+        let queue = match self.walks {
+            true => self.rxq.clone(),
+            false => self.any_queue(false),
+        };
         queue.put(&mut call);
-        match entry {
-            RXQ_NEW => {
-                call = Frame::new(entry);
-                call.set_u64(at::LIMIT, self.limit(false));
-            }
-            RXQ_FROM_CONN_MAP => {
-                call = Frame::new(entry);
-                call.set_u64(at::LIMIT, self.build_limit(false));
-                self.table(&mut call, false);
-            }
-            RXQ_PUSH => {
-                let item = self.item(false);
-                call.set_yes(at::RST, item.rst);
-                call.set_u32(at::LOCAL_PORT, item.local_port);
-                call.set_u32(at::PEER_PORT, item.peer_port);
-            }
-            _ => (),
+        if entry == RXQ_PUSH {
+            let item = self.item(false);
+            call.set_yes(at::RST, item.rst);
+            call.set_u32(at::LOCAL_PORT, item.local_port);
+            call.set_u32(at::PEER_PORT, item.peer_port);
         }
         call
     }
 
     pub(super) fn killq_call(&mut self) -> Frame {
+        let entry = match self.below(40) {
+            0..2 => KILLQ_NEW,
+            2..8 => return self.build_call(true),
+            8..17 => KILLQ_PUSH,
+            17..28 => KILLQ_POP,
+            28..30 => KILLQ_IS_SYNCED,
+            30..32 => KILLQ_IS_EMPTY,
+            32..34 => KILLQ_IS_FULL,
+            34..36 => KILLQ_PEEK,
+            _ => return self.eq_call(),
+        };
+        let mut call = Frame::new(entry);
+        if entry == KILLQ_NEW {
+            call.set_u64(at::LIMIT, self.limit(true));
+            return call;
+        }
         let queue = match self.walks {
             true => self.killq.clone(),
             false => self.any_queue(true),
         };
-        let entry = match self.below(40) {
-            0..2 => KILLQ_NEW,
-            2..8 => KILLQ_FROM_CONN_MAP,
-            8..18 => KILLQ_PUSH,
-            18..29 => KILLQ_POP,
-            29..31 => KILLQ_IS_SYNCED,
-            31..33 => KILLQ_IS_EMPTY,
-            33..35 => KILLQ_IS_FULL,
-            _ => KILLQ_ITEM_EQ,
-        };
-        let mut call = Frame::new(entry);
         queue.put(&mut call);
-        let front = queue.places.first().map(|item| item.time);
         match entry {
-            KILLQ_NEW => {
-                call = Frame::new(entry);
-                call.set_u64(at::LIMIT, self.limit(true));
-            }
-            KILLQ_FROM_CONN_MAP => {
-                call = Frame::new(entry);
-                call.set_u64(at::LIMIT, self.build_limit(true));
-                let clock = self.clock(Some(3_000));
-                call.set_u64(at::CLOCK, clock);
-                self.table(&mut call, true);
-            }
             KILLQ_PUSH => {
                 let item = self.item(true);
                 call.set_u32(at::LOCAL_PORT, item.local_port);
@@ -144,29 +135,33 @@ impl Maker {
                 call.set_u64(at::TIME, item.time);
             }
             KILLQ_POP => {
-                let clock = self.clock(front);
+                let clock = self.clock(queue.places.first().map(|item| item.time));
                 call.set_u64(at::CLOCK, clock);
-            }
-            KILLQ_ITEM_EQ => {
-                call = Frame::new(entry);
-                let one = self.item(true);
-                let apart = self.pick(&[0, 1, 9, 10, 10, 11, 11, 12, 1_000]);
-                let (low, high) = (one.time, one.time.saturating_add(apart));
-                let (a, b) = if self.one_in(2) {
-                    (low, high)
-                } else {
-                    (high, low)
-                };
-                let other = if self.one_in(4) { self.item(true) } else { one };
-                call.set_u32(at::LOCAL_PORT, one.local_port);
-                call.set_u32(at::PEER_PORT, one.peer_port);
-                call.set_u64(at::TIME, a);
-                call.set_u32(at::OTHER_LOCAL_PORT, other.local_port);
-                call.set_u32(at::OTHER_PEER_PORT, other.peer_port);
-                call.set_u64(at::OTHER_TIME, b);
             }
             _ => (),
         }
+        call
+    }
+
+    /// Two items, mostly of one key, around 10 ms apart or by any number.
+    fn eq_call(&mut self) -> Frame {
+        let mut call = Frame::new(KILLQ_ITEM_EQ);
+        let one = self.item(true);
+        let other = if self.one_in(4) { self.item(true) } else { one };
+        let apart = match self.one_in(2) {
+            true => self.length(u64::MAX),
+            false => self.pick(&[0, 1, 9, 10, 10, 11, 11, 12, 1_000]),
+        };
+        let mut times = [one.time, one.time.saturating_add(apart)];
+        if self.one_in(2) {
+            times.reverse();
+        }
+        call.set_u32(at::LOCAL_PORT, one.local_port);
+        call.set_u32(at::PEER_PORT, one.peer_port);
+        call.set_u64(at::TIME, times[0]);
+        call.set_u32(at::OTHER_LOCAL_PORT, other.local_port);
+        call.set_u32(at::OTHER_PEER_PORT, other.peer_port);
+        call.set_u64(at::OTHER_TIME, times[1]);
         call
     }
 }

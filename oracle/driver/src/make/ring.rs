@@ -5,21 +5,41 @@ use crate::frame::*;
 use crate::limits::*;
 use crate::record::Ring;
 
+/// The largest ring whose storage is lent here; larger ones, where 01 has such, are met by calls
+/// that lend none, and not walked on.
+pub(super) const LENT: u32 = if MAX_RING_SIZE < MAX_PKT_BUF_SIZE as u32 {
+    MAX_RING_SIZE
+} else {
+    MAX_PKT_BUF_SIZE as u32
+};
+
 impl Maker {
-    pub(super) fn size(&mut self) -> u32 {
-        match self.below(400) {
-            0..4 => self.pick(&[0, 8, 15, 17, 24, 65_535, 65_537, 131_072, u32::MAX]),
-            4..8 => 65_536,
-            8..12 => self.pick(&[8_192, 16_384, 32_768]),
-            12..40 => self.pick(&[256, 512, 1_024, 2_048, 4_096]),
-            40..120 => self.pick(&[32, 64, 128]),
-            _ => 16,
+    /// A size: small ones most often, as their edges are near; seldom one that is out of range.
+    fn size(&mut self) -> u32 {
+        let wrong = [
+            0,
+            MIN_RING_SIZE / 2,
+            MIN_RING_SIZE - 1,
+            MIN_RING_SIZE + 1,
+            MIN_RING_SIZE + 8,
+            MAX_RING_SIZE - 1,
+            MAX_RING_SIZE + 1,
+            MAX_RING_SIZE.wrapping_mul(2),
+            u32::MAX,
+        ];
+        let powers = (MAX_RING_SIZE / MIN_RING_SIZE).ilog2() as u64;
+        match self.below(100) {
+            0 => self.pick(&wrong),
+            1 => LENT,
+            2..9 => MIN_RING_SIZE << self.even(0, powers),
+            9..40 => MIN_RING_SIZE << self.below(5),
+            _ => MIN_RING_SIZE,
         }
     }
 
     /// The bytes of a ring's storage: as many as its size, but for a few.
     pub(super) fn storage(&mut self, size: u32) -> Vec<u8> {
-        let size = size.min(MAX_PKT_BUF_SIZE as u32) as usize;
+        let size = size.min(LENT) as usize;
         let length = match self.below(200) {
             0 => size + 1,
             1 => size.saturating_sub(1),
@@ -59,15 +79,16 @@ impl Maker {
 
     pub(super) fn ring_call(&mut self) -> Frame {
         let entry = match self.below(40) {
-            0 => RING_NEW,
-            1..4 => RING_LEN,
+            0 if !self.is_long() => RING_NEW,
+            0..4 => RING_LEN,
             4..7 => RING_IS_EMPTY,
             7..22 => RING_PUSH,
             22..36 => RING_FLUSH_TO,
-            _ => RING_FIRST_PIECE,
+            36..38 => RING_FIRST_PIECE,
+            _ => RING_SECOND_PIECE,
         };
         let (ring, storage) = match self.walks {
-            true => self.ring.clone(),
+            true => self.ring_walk(),
             false => self.any_ring(),
         };
         let mut call = Frame::new(entry);
@@ -82,14 +103,14 @@ impl Maker {
                 call.runs[STORAGE] = self.storage(size);
             }
             RING_PUSH => {
-                let room = (ring.size as u64)
-                    .saturating_sub(held)
-                    .min(MAX_PKT_BUF_SIZE as u64);
+                let most = MAX_PKT_BUF_SIZE as u64;
+                let room = (ring.size as u64).saturating_sub(held).min(most);
                 let n = match self.below(60) {
-                    0 => self.pick(&[65_536, 65_537]),
+                    0 => most + self.below(2),
+                    1..20 => self.even(0, room),
                     _ => self.pick(&[0, 1, room, room, room + 1, room.saturating_sub(1), room / 2]),
                 };
-                call.runs[BYTES] = self.bytes(n.min(65_537) as usize);
+                call.runs[BYTES] = self.bytes(n.min(most + 1) as usize);
             }
             RING_FLUSH_TO => {
                 let answers = [self.answer(first), self.answer(held.saturating_sub(first))];

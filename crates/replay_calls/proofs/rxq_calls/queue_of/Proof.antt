@@ -2,14 +2,15 @@
 use native.Mathlib.Omega.{arith}
 use Prim.Native.Nat.{_-_, _≤_}
 use borrow.Author.Needs.{needs}
-use Rattle.replay_calls.proofs.queue_calls.rx_queue_of.Statement.{statement}
-use Rattle.replay_calls.proofs.queue_calls.rx_queue_of.Tie as tie
+use Rattle.defs.specs.Limits.{maxRxq}
+use Rattle.replay_calls.proofs.rxq_calls.queue_of.Statement.{statement}
+use Rattle.replay_calls.proofs.rxq_calls.queue_of.Tie as tie
 
 abbrev Inv-loop : tie.InvT-loop
-Inv-loop head places q₀ i₀ q i = i ≤ 256
+Inv-loop head places q₀ i₀ q i = i ≤ maxRxq
 
 abbrev μ-loop : tie.MeasureT-loop
-μ-loop head places q₀ i₀ q i = 256 - i
+μ-loop head places q₀ i₀ q i = maxRxq - i
 
 loop-holds : tie.Need-loop-holds Inv-loop μ-loop
 loop-holds c = omega arith
@@ -17,8 +18,8 @@ loop-holds c = omega arith
 begin-requires : tie.Need-begin-requires Inv-loop μ-loop
 begin-requires c κs = search needs
 
-rx-item-at-requires : tie.Need-rx-item-at-requires Inv-loop μ-loop
-rx-item-at-requires c κs = search needs
+item-at-requires : tie.Need-item-at-requires Inv-loop μ-loop
+item-at-requires c κs = search needs
 
 mul-q : tie.Need-mul-q Inv-loop μ-loop
 mul-q c = omega arith
@@ -47,15 +48,15 @@ yes-at-requires c κs = search needs
 returns : tie.Need-returns Inv-loop μ-loop
 returns c = search needs
 
-pub rx-queue-of-spec : {M : Type 1} → statement M
-rx-queue-of-spec =
+pub queue-of-spec : {M : Type 1} → statement M
+queue-of-spec =
     tie.close
     (tie.spec
     Inv-loop
     μ-loop
     loop-holds
     begin-requires
-    rx-item-at-requires
+    item-at-requires
     mul-q
     array-set-from-q
     add-i

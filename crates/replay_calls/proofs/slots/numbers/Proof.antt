@@ -1,17 +1,18 @@
 -- Each turn brings it nearer to the last slot.
 use native.Mathlib.Omega.{arith}
-use Prim.Native.Nat.{_-_, _≤_}
+use Prim.Native.Nat.{_+_, _-_, _≤_}
 use mathlib.Core.Path.{_≡_}
 use lib.ListN.{length}
 use borrow.Author.Needs.{needs}
-use Rattle.replay_calls.proofs.queue_calls.numbers.Statement.{statement}
-use Rattle.replay_calls.proofs.queue_calls.numbers.Tie as tie
+use Rattle.defs.specs.Limits.{maxSlots}
+use Rattle.replay_calls.proofs.slots.numbers.Statement.{statement}
+use Rattle.replay_calls.proofs.slots.numbers.Tie as tie
 
 abbrev Inv-loop : tie.InvT-loop
-Inv-loop bytes all₀ i₀ all i = (i ≤ 520) × (length all ≡ 520)
+Inv-loop bytes all₀ i₀ all i = (i ≤ maxSlots + 8) × (length all ≡ maxSlots + 8)
 
 abbrev μ-loop : tie.MeasureT-loop
-μ-loop bytes all₀ i₀ all i = 520 - i
+μ-loop bytes all₀ i₀ all i = maxSlots + 8 - i
 
 loop-holds : tie.Need-loop-holds Inv-loop μ-loop
 loop-holds c = (omega arith, search needs)

@@ -3,8 +3,8 @@ use native.Mathlib.Omega.{arith}
 use Prim.Native.Nat.{_-_, _≤_}
 use borrow.Author.Needs.{needs}
 use lib.ListN.{length}
-use Rattle.replay_calls.proofs.queue_calls.written.Statement.{statement}
-use Rattle.replay_calls.proofs.queue_calls.written.Tie as tie
+use Rattle.replay_calls.proofs.queue_record.written.Statement.{statement}
+use Rattle.replay_calls.proofs.queue_record.written.Tie as tie
 
 abbrev Inv-loop : tie.InvT-loop
 Inv-loop bytes n₀ n = n ≤ length bytes

@@ -4,14 +4,15 @@ use Prim.Native.Nat.{_-_, _≤_}
 use borrow.Author.Needs.{needs}
 use mathlib.Core.Path.{_≡_}
 use lib.ListN.{length}
-use Rattle.replay_calls.proofs.queue_calls.put_rx_places.Statement.{statement}
-use Rattle.replay_calls.proofs.queue_calls.put_rx_places.Tie as tie
+use Rattle.defs.specs.Limits.{maxRxq}
+use Rattle.replay_calls.proofs.rxq_calls.put_places.Statement.{statement}
+use Rattle.replay_calls.proofs.rxq_calls.put_places.Tie as tie
 
 abbrev Inv-loop : tie.InvT-loop
-Inv-loop bytes₀ q i₀ bytes i = (i ≤ 256) × (length bytes ≡ length bytes₀)
+Inv-loop bytes₀ q i₀ bytes i = (i ≤ maxRxq) × (length bytes ≡ length bytes₀)
 
 abbrev μ-loop : tie.MeasureT-loop
-μ-loop bytes₀ q i₀ bytes i = 256 - i
+μ-loop bytes₀ q i₀ bytes i = maxRxq - i
 
 loop-holds : tie.Need-loop-holds Inv-loop μ-loop
 loop-holds c = (omega arith, omega arith)
@@ -25,8 +26,8 @@ array-copy-out-item c = search needs
 begin-requires : tie.Need-begin-requires Inv-loop μ-loop
 begin-requires c κs = search needs
 
-put-rx-item-requires : tie.Need-put-rx-item-requires Inv-loop μ-loop
-put-rx-item-requires c κs = search needs
+put-item-requires : tie.Need-put-item-requires Inv-loop μ-loop
+put-item-requires c κs = search needs
 
 add-i : tie.Need-add-i Inv-loop μ-loop
 add-i c = omega arith
@@ -43,8 +44,8 @@ same-length c = omega arith
 returns : tie.Need-returns Inv-loop μ-loop
 returns c = search needs
 
-pub put-rx-places-spec : {M : Type 1} → statement M
-put-rx-places-spec =
+pub put-places-spec : {M : Type 1} → statement M
+put-places-spec =
     tie.close
     (tie.spec
     Inv-loop
@@ -53,7 +54,7 @@ put-rx-places-spec =
     mul-item
     array-copy-out-item
     begin-requires
-    put-rx-item-requires
+    put-item-requires
     add-i
     loop-less
     loop-again
