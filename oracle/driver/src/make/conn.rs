@@ -8,7 +8,10 @@ use crate::record::{Conn, State};
 
 impl Maker {
     pub(super) fn any_conn(&mut self) -> (Conn, Vec<u8>) {
-        let ring = self.ring_record();
+        let mut ring = self.ring_record();
+        if self.one_in(4) {
+            ring.head = ring.tail;
+        }
         let size = ring.size;
         let threshold = match self.below(40) {
             0 => self.pick(&[0, size.wrapping_add(1)]),

@@ -61,15 +61,21 @@ impl Maker {
             2 * room,
         ];
         let len = match self.below(100) {
-            0..20 => self.length(MOST),
-            20..36 => room + self.below(5),
-            36..50 => self.even(0, room),
+            0..30 => self.length(MOST),
+            30..34 => self.page(),
+            34..46 => room + self.below(5),
+            46..56 => self.even(0, room),
             _ => self.pick(&near),
         };
         match self.mood {
             Mood::Wild => len.min(MOST),
             _ => len.min(room),
         }
+    }
+
+    /// A page, as guests like to fill, or a byte beside it.
+    fn page(&mut self) -> u64 {
+        self.even(4_095, 4_097)
     }
 
     fn op(&mut self) -> u16 {
@@ -111,7 +117,8 @@ impl Maker {
         let steady = self.mood == Mood::Steady;
         let buf_len = match self.below(100) {
             0 => self.pick(&[MOST - 1, MOST, MOST, MOST + 1]),
-            1..50 => self.length(MOST),
+            1..46 => self.length(MOST),
+            46..50 => self.page(),
             _ => self.pick(&[0, 1, 2, 7, 8, 20, 40]),
         };
         let buf_len = buf_len.max(steady as u64);

@@ -11,7 +11,7 @@ impl Maker {
         match self.below(40) {
             0 => self.pick(&[0, most + 1, u64::MAX]),
             1..4 => self.pick(&[most - 1, most]),
-            4..20 => self.even(least, most),
+            4..24 => self.even(least, most),
             _ => self.pick(&[1, 2, 3, 5, 8]),
         }
     }
@@ -49,7 +49,8 @@ impl Maker {
         let places = limit.min(most);
         let n = match self.below(8) {
             0 => 0,
-            1..4 => places,
+            1..3 => places,
+            3 => places.saturating_sub(1),
             _ => self.even(0, places),
         };
         let mut items: Vec<Item> = (0..n).map(|_| self.item(kill)).collect();
