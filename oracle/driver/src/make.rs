@@ -2,7 +2,7 @@
 //! calls on records of any kind, and walks. It runs the Rust as it goes, to walk.
 mod chance;
 mod conn;
-mod packet;
+mod packets;
 mod queue;
 mod ring;
 mod table;
