@@ -8,7 +8,14 @@ use defs::limits::MAX_RXQ_SIZE;
 use muxer_rxq::MuxerRx;
 use muxer_rxq::MuxerRxQ;
 
-pub fn call(entry: u8, head: &[u8], places: &[u8], ports: &[u8], used: &[u8], pending: &[u8]) {
+pub fn call<'a>(
+    entry: u8,
+    head: &[u8],
+    places: &[u8],
+    ports: &[u8],
+    used: &'a [u8],
+    pending: &'a [u8],
+) {
     match entry {
         31 => new(head),
         32 => from_conn_map(head, ports, used, pending),
@@ -89,7 +96,7 @@ fn new(head: &[u8]) {
     left(head, answer, queue);
 }
 
-fn from_conn_map(head: &[u8], ports: &[u8], used: &[u8], pending: &[u8]) {
+fn from_conn_map<'a>(head: &[u8], ports: &[u8], used: &'a [u8], pending: &'a [u8]) {
     let keys = slots::numbers(ports);
     let n = slots::slots(ports.len(), &keys);
     let built = MuxerRxQ::from_conn_map(frame::usize_at(head, 56), &keys[..n], used, pending);
