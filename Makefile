@@ -9,7 +9,7 @@ run:
 readings:
 	@mkdir -p target
 	@rt check run_readings >target/readings.log 2>&1 || { cat target/readings.log; exit 1; }
-	@target/bin/run_readings
+	@scripts/program run_readings
 
 # The last line is rt ci's own: 'N passed, 0 failed'.
 test: leaf

@@ -1,7 +1,6 @@
 #!/usr/bin/env bash
-# compare.sh SEED CALLS: makes calls by a seed, runs each through the Rust and through the port ($RUNNER runs it on a processor
-# that is not its own), and compares the replies byte for byte. The calls go in batches, so that nothing grows; the counts of
-# every entry and answer stand in target/oracle/counts.
+# compare.sh SEED CALLS: makes calls by a seed, runs each through the Rust and through the port, and compares the replies byte
+# for byte. The calls go in batches, so that nothing grows; the counts of every entry and answer stand in target/oracle/counts.
 set -eu
 cd "$(dirname "$0")/.."
 seed=$1 calls=$2
@@ -22,7 +21,7 @@ for ((b = 0; done < calls; b++)); do
     n=$((calls - done < batch ? calls - done : batch))
     $oracle gen "$seed" "$b" "$n" >"$run/calls"
     $oracle run <"$run/calls" >"$run/rust"
-    ${RUNNER:-} target/bin/replay_calls <"$run/calls" >"$run/port"
+    scripts/program replay_calls <"$run/calls" >"$run/port"
     if ! cmp -s "$run/rust" "$run/port"; then
         echo "compare: seed $seed, batch $b:"
         $oracle differ "$run/calls" "$run/rust" "$run/port"

@@ -12,7 +12,7 @@ mkdir -p $dir
 oracle/build.sh >$dir/build.log || { cat $dir/build.log; exit 1; }
 oracle/port.sh
 $oracle gen "$seed" 0 "$calls" >$dir/slip.calls
-${RUNNER:-} target/bin/replay_calls <$dir/slip.calls >$dir/slip.port
+scripts/program replay_calls <$dir/slip.calls >$dir/slip.port
 $oracle run <$dir/slip.calls | cmp - $dir/slip.port || { echo "slips: a difference without any slip"; exit 1; }
 
 slip=$dir/slip
