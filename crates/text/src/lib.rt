@@ -1,8 +1,19 @@
-// Bytes as text, for the programs to print.
+// What the programs share: bytes as digits, words and numbers on standard output, parts of buffers.
 ghost use mathlib.Core.Path.{_≡_};
 ghost use Prim.Native.Nat.{_<_};
 ghost use Rattle.io.specs.Digits.{glyph};
 ghost use Rattle.text.specs.Hex.{hexed};
+
+mod part;
+mod print;
+
+pub use part::fitting;
+pub use part::front;
+pub use print::bytes;
+pub use print::named;
+pub use print::number;
+pub use print::say;
+pub use print::yes;
 
 // Two hexadecimal digits for each byte, in lower case, at the front of `out`: as many bytes as
 // there is room for. The rest of `out` stays.
