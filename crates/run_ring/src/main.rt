@@ -4,8 +4,20 @@
 use defs::Answer;
 use defs::StreamAnswer;
 use defs::StreamAnswers;
+use defs::limits::MAX_PKT_BUF_SIZE;
+use defs::limits::MAX_RING_SIZE;
+use defs::limits::MIN_RING_SIZE;
+use text::named;
+use text::number;
+use text::say;
 use txbuf::Flushed;
 use txbuf::TxBuf;
+
+// The ring of most runs.
+const SIZE: usize = 16;
+
+// A ring that the longest push fills.
+const LARGE: usize = MAX_PKT_BUF_SIZE;
 
 fn main() {
     sizes();
@@ -14,52 +26,32 @@ fn main() {
     large();
 }
 
-// ---- printing
-
-fn say(words: &[u8]) {
-    io::write_all(1, words);
-}
-
-fn number(n: u64) {
-    io::print_decimal(1, n);
-    say(b" ");
-}
+// ---- calls, each with its line
 
 fn left(answer: Answer, ring: TxBuf) {
-    say(b": ");
-    number(defs::number_of(answer) as u64);
-    say(b"head ");
-    number(ring.head as u64);
-    say(b"tail ");
-    number(ring.tail as u64);
+    named(b" :", defs::number_of(answer) as u64);
+    named(b" head", ring.head as u64);
+    named(b" tail", ring.tail as u64);
 }
 
-fn bytes16(bytes: &[u8]) {
-    let mut digits = [0u8; 32];
-    text::hex(bytes, &mut digits);
-    say(&digits);
-    say(b"\n");
-}
-
-fn count_of(answer: StreamAnswer) {
+fn by(answer: StreamAnswer) {
     match answer {
         StreamAnswer::Count(n) => number(n as u64),
-        StreamAnswer::WouldBlock => say(b"block "),
-        StreamAnswer::Failed => say(b"fail "),
+        StreamAnswer::WouldBlock => say(b" block"),
+        StreamAnswer::Failed => say(b" fail"),
     }
 }
 
-// ---- calls, each with its line
-
+// The storage is shown by its first bytes.
 fn push(ring: TxBuf, storage: &mut [u8], src: &[u8]) -> TxBuf {
-    say(b"push ");
-    number(src.len() as u64);
+    named(b"push", src.len() as u64);
     let pushed = ring.push(storage, src);
     let answer = pushed.answer;
     let next = pushed.ring;
     left(answer, next);
-    say(b"storage ");
-    bytes16(storage);
+    say(b" storage ");
+    text::bytes(text::front(storage, SIZE));
+    say(b"\n");
     next
 }
 
@@ -71,21 +63,20 @@ fn flush(
     second: StreamAnswer,
     room: usize,
 ) -> TxBuf {
-    let mut out = [0x2eu8; 16];
-    say(b"flush by ");
-    count_of(first);
-    count_of(second);
-    say(b"room ");
-    number(room as u64);
+    let mut out = [0x2eu8; SIZE];
+    say(b"flush by");
+    by(first);
+    by(second);
+    named(b" room", room as u64);
     let answers = StreamAnswers { first, second };
     let flushed = flush_into(ring, storage, answers, &mut out, room);
     let answer = flushed.answer;
     let next = flushed.ring;
     left(answer, next);
-    say(b"count ");
-    number(flushed.count as u64);
-    say(b"out ");
-    bytes16(&out);
+    named(b" count", flushed.count as u64);
+    say(b" out ");
+    text::bytes(&out);
+    say(b"\n");
     next
 }
 
@@ -96,22 +87,22 @@ fn flush_into(
     out: &mut [u8],
     room: usize,
 ) -> Flushed {
-    let n = defs::smaller(room, out.len());
+    let n = text::fitting(room, out);
     ring.flush_to(storage, answers, &mut out[..n])
 }
 
+// The first piece, with dots up to the ring's size.
 fn look(ring: TxBuf, storage: &[u8]) {
     let len = ring.len();
     let empty = ring.is_empty();
-    say(b"len ");
-    number(len.len as u64);
+    named(b"len", len.len as u64);
     if empty.holds {
-        say(b"empty ");
+        say(b" empty");
     }
-    say(b"first piece ");
-    number(ring.first_piece(storage).len() as u64);
-    let mut digits = [0x2eu8; 32];
+    named(b" first piece", ring.first_piece(storage).len() as u64);
+    let mut digits = [0x2eu8; 2 * SIZE];
     text::hex(ring.first_piece(storage), &mut digits);
+    say(b" ");
     say(&digits);
     say(b"\n");
 }
@@ -120,36 +111,34 @@ fn look(ring: TxBuf, storage: &[u8]) {
 
 fn sizes() {
     size(0);
-    size(8);
-    size(15);
-    size(16);
-    size(17);
+    size(MIN_RING_SIZE / 2);
+    size(MIN_RING_SIZE - 1);
+    size(MIN_RING_SIZE);
+    size(MIN_RING_SIZE + 1);
     size(24);
-    size(32);
-    size(65535);
-    size(65536);
-    size(65537);
-    size(131072);
+    size(2 * MIN_RING_SIZE);
+    size(MAX_RING_SIZE - 1);
+    size(MAX_RING_SIZE);
+    size(MAX_RING_SIZE + 1);
+    size(2 * MAX_RING_SIZE);
 }
 
 fn size(n: u32) {
-    say(b"new ");
-    number(n as u64);
+    named(b"new", n as u64);
     let made = TxBuf::new(n);
     let answer = made.answer;
     let ring = made.ring;
     left(answer, ring);
-    say(b"size ");
-    number(ring.size as u64);
-    say(b"\n");
+    named(b" size", ring.size as u64);
+    say(b" \n");
 }
 
 // Six bytes before 2^32, where the offset is 10: the storage's end and the counters' wrap are met
 // at once.
 fn across_the_end() {
-    let mut storage = [0u8; 16];
+    let mut storage = [0u8; SIZE];
     let start = TxBuf {
-        size: 16,
+        size: SIZE as u32,
         head: 4294967290,
         tail: 4294967290,
     };
@@ -224,7 +213,7 @@ fn in_two_pieces(ring: TxBuf, storage: &mut [u8]) {
 fn refusals() {
     let mut storage = *b"6789......012345";
     let ring = TxBuf {
-        size: 16,
+        size: SIZE as u32,
         head: 20,
         tail: 10,
     };
@@ -265,7 +254,7 @@ fn unsound(storage: &mut [u8]) {
     let one = StreamAnswer::Count(1);
     let fails = StreamAnswer::Failed;
     let over = TxBuf {
-        size: 16,
+        size: SIZE as u32,
         head: 20,
         tail: 3,
     };
@@ -273,7 +262,7 @@ fn unsound(storage: &mut [u8]) {
     flush(over, storage, one, fails, 16);
     look(over, storage);
     let short = TxBuf {
-        size: 32,
+        size: 2 * SIZE as u32,
         head: 0,
         tail: 0,
     };
@@ -281,17 +270,16 @@ fn unsound(storage: &mut [u8]) {
     flush(short, storage, fails, fails, 16);
 }
 
-// A ring of 65,536 bytes, filled across its end in one push; one byte more is 9, and a source of
-// 65,537 bytes is 4.
+// Filled across its end in one push; one byte more is 9, and a source of one byte more is 4.
 fn large() {
-    let mut storage = [0u8; 65536];
-    let src = [7u8; 65537];
+    let mut storage = [0u8; LARGE];
+    let src = [7u8; MAX_PKT_BUF_SIZE + 1];
     let ring = TxBuf {
-        size: 65536,
+        size: LARGE as u32,
         head: 4294967290,
         tail: 4294967290,
     };
-    let full = push(ring, &mut storage, &src[..65536]);
+    let full = push(ring, &mut storage, &src[..LARGE]);
     let still = push(full, &mut storage, b"1");
     let same = push(still, &mut storage, &src);
     look(same, &storage);
