@@ -2,7 +2,17 @@
 // answer and whether anything changed.
 use defs::Answer;
 use defs::limits;
+use defs::limits::MAX_PKT_BUF_SIZE;
+use defs::limits::VSOCK_PKT_HDR_SIZE;
 use packet::Decoded;
+use text::number;
+use text::say;
+
+// The ring whose thresholds are tried.
+const RING: u32 = 16;
+
+// Longer than what the copying leaf copies in one run.
+const LONG: usize = 70000;
 
 fn main() {
     headers();
@@ -13,35 +23,16 @@ fn main() {
     copies();
 }
 
-// ---- printing
-
-fn say(words: &[u8]) {
-    io::write_all(1, words);
-}
-
-fn number(n: u64) {
-    io::write_all(1, b" ");
-    io::print_decimal(1, n);
-}
-
 fn answer(a: Answer) {
     number(defs::number_of(a) as u64);
-}
-
-fn unchanged(same: bool) {
-    if same {
-        say(b", unchanged\n");
-    } else {
-        say(b", changed\n");
-    }
 }
 
 // ---- the header
 
 fn headers() {
-    let shorter = [90u8; 43];
-    let exact = [90u8; 44];
-    let longer = [90u8; 45];
+    let shorter = [90u8; VSOCK_PKT_HDR_SIZE - 1];
+    let exact = [90u8; VSOCK_PKT_HDR_SIZE];
+    let longer = [90u8; VSOCK_PKT_HDR_SIZE + 1];
     let long = filled();
     decoded(b"");
     decoded(&shorter);
@@ -50,8 +41,8 @@ fn headers() {
     decoded(&long);
 }
 
-fn filled() -> [u8; 65536] {
-    [90u8; 65536]
+fn filled() -> [u8; MAX_PKT_BUF_SIZE] {
+    [90u8; MAX_PKT_BUF_SIZE]
 }
 
 fn decoded(bytes: &[u8]) {
@@ -66,24 +57,24 @@ fn decoded(bytes: &[u8]) {
 }
 
 fn buffers() {
-    let shorter = [90u8; 43];
-    let exact = [90u8; 44];
-    let longer = [90u8; 45];
+    let shorter = [90u8; VSOCK_PKT_HDR_SIZE - 1];
+    let exact = [90u8; VSOCK_PKT_HDR_SIZE];
+    let longer = [90u8; VSOCK_PKT_HDR_SIZE + 1];
     let long = filled();
     let mut none = [0u8; 0];
-    let mut out43 = shorter;
-    let mut out44 = exact;
-    let mut out45 = longer;
-    let mut out65536 = filled();
+    let mut out_shorter = shorter;
+    let mut out_exact = exact;
+    let mut out_longer = longer;
+    let mut out_long = filled();
     encoded(&mut none, b"");
-    encoded(&mut out43, &shorter);
-    encoded(&mut out44, &exact);
-    encoded(&mut out45, &longer);
-    encoded(&mut out65536, &long);
+    encoded(&mut out_shorter, &shorter);
+    encoded(&mut out_exact, &exact);
+    encoded(&mut out_longer, &longer);
+    encoded(&mut out_long, &long);
 }
 
 fn encoded(out: &mut [u8], was: &[u8]) {
-    let zero = [0u8; limits::VSOCK_PKT_HDR_SIZE];
+    let zero = [0u8; VSOCK_PKT_HDR_SIZE];
     let Decoded::Header(hdr) = packet::decode(&zero) else {
         return;
     };
@@ -92,6 +83,14 @@ fn encoded(out: &mut [u8], was: &[u8]) {
     say(b" bytes:");
     answer(packet::encode(hdr, out));
     unchanged(check::same(out, was));
+}
+
+fn unchanged(same: bool) {
+    if same {
+        say(b", unchanged\n");
+    } else {
+        say(b", changed\n");
+    }
 }
 
 // A header of one byte value throughout comes back as it was: how many do, from 0 on.
@@ -113,8 +112,8 @@ fn come_back() -> u64 {
 }
 
 fn comes_back(byte: u8) -> bool {
-    let bytes = [byte; limits::VSOCK_PKT_HDR_SIZE];
-    let mut out = [0u8; limits::VSOCK_PKT_HDR_SIZE];
+    let bytes = [byte; VSOCK_PKT_HDR_SIZE];
+    let mut out = [0u8; VSOCK_PKT_HDR_SIZE];
     let Decoded::Header(hdr) = packet::decode(&bytes) else {
         return false;
     };
@@ -156,55 +155,58 @@ fn holds(set: u32, bit: u32) -> bool {
 
 fn test(n: u64, within: bool) {
     number(n);
-    if within {
-        say(b" yes;");
-    } else {
-        say(b" no;");
-    }
+    text::yes(within);
+    say(b";");
 }
 
 fn settings() {
     say(b"ring size:");
     ring_size(0);
-    ring_size(8);
-    ring_size(16);
+    ring_size(limits::MIN_RING_SIZE / 2);
+    ring_size(limits::MIN_RING_SIZE);
     ring_size(24);
-    ring_size(65536);
-    ring_size(131072);
-    say(b"\nthreshold of a ring of 16:");
-    threshold(0);
-    threshold(1);
-    threshold(16);
-    threshold(17);
+    ring_size(limits::MAX_RING_SIZE);
+    ring_size(2 * limits::MAX_RING_SIZE);
+    say(b"\nthreshold of a ring of");
+    number(RING as u64);
+    say(b":");
+    threshold(limits::MIN_THRESHOLD - 1);
+    threshold(limits::MIN_THRESHOLD);
+    threshold(RING);
+    threshold(RING + 1);
     say(b"\ntimeout:");
-    timeout(0);
-    timeout(1);
-    timeout(60000);
-    timeout(60001);
-    say(b"\nRX queue:");
-    rxq(0);
-    rxq(1);
-    rxq(256);
-    rxq(257);
-    say(b"\nkill queue:");
-    killq(0);
-    killq(1);
-    killq(128);
-    killq(129);
-    say(b"\ntable:");
-    slots(0);
-    slots(1);
-    slots(512);
-    slots(513);
-    say(b"\npacket:");
-    packet_length(0);
-    packet_length(65536);
-    packet_length(65537);
+    timeout(limits::MIN_TIMEOUT_MS - 1);
+    timeout(limits::MIN_TIMEOUT_MS);
+    timeout(limits::MAX_TIMEOUT_MS);
+    timeout(limits::MAX_TIMEOUT_MS + 1);
+    sizes();
     say(b"\nclock:");
     clock(0);
-    clock(4611686018427387904);
-    clock(4611686018427387905);
+    clock(limits::MAX_CLOCK_MS);
+    clock(limits::MAX_CLOCK_MS + 1);
     say(b"\n");
+}
+
+fn sizes() {
+    say(b"\nRX queue:");
+    rxq(limits::MIN_RXQ_SIZE - 1);
+    rxq(limits::MIN_RXQ_SIZE);
+    rxq(limits::MAX_RXQ_SIZE);
+    rxq(limits::MAX_RXQ_SIZE + 1);
+    say(b"\nkill queue:");
+    killq(limits::MIN_KILLQ_SIZE - 1);
+    killq(limits::MIN_KILLQ_SIZE);
+    killq(limits::MAX_KILLQ_SIZE);
+    killq(limits::MAX_KILLQ_SIZE + 1);
+    say(b"\ntable:");
+    slots(limits::MIN_CONNECTIONS - 1);
+    slots(limits::MIN_CONNECTIONS);
+    slots(limits::MAX_CONNECTIONS);
+    slots(limits::MAX_CONNECTIONS + 1);
+    say(b"\npacket:");
+    packet_length(0);
+    packet_length(MAX_PKT_BUF_SIZE);
+    packet_length(MAX_PKT_BUF_SIZE + 1);
 }
 
 fn ring_size(n: u32) {
@@ -212,7 +214,7 @@ fn ring_size(n: u32) {
 }
 
 fn threshold(n: u32) {
-    test(n as u64, limits::is_threshold(n, 16));
+    test(n as u64, limits::is_threshold(n, RING));
 }
 
 fn timeout(n: u64) {
@@ -254,25 +256,24 @@ fn copies() {
     say(b"a copy of none to 4: ");
     shown(front);
     let src = marked();
-    let mut dst = [0u8; 70000];
+    let mut dst = [0u8; LONG];
     defs::copy(&mut dst, &src);
-    say(b"a copy of 70000 bytes is the source:");
-    test(70000, check::same(&dst, &src));
+    text::named(b"a copy of", LONG as u64);
+    say(b" bytes is the source:");
+    test(LONG as u64, check::same(&dst, &src));
     say(b"\n");
 }
 
 fn shown(bytes: [u8; 4]) {
-    let mut digits = [0u8; 8];
-    text::hex(&bytes, &mut digits);
-    say(&digits);
+    text::bytes(&bytes);
     say(b"\n");
 }
 
-fn marked() -> [u8; 70000] {
-    let mut bytes = [7u8; 70000];
+fn marked() -> [u8; LONG] {
+    let mut bytes = [7u8; LONG];
     bytes[0] = 1;
-    bytes[65535] = 2;
-    bytes[65536] = 3;
-    bytes[69999] = 4;
+    bytes[MAX_PKT_BUF_SIZE - 1] = 2;
+    bytes[MAX_PKT_BUF_SIZE] = 3;
+    bytes[LONG - 1] = 4;
     bytes
 }
