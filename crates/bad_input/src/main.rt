@@ -5,6 +5,7 @@ use defs::limits;
 use defs::limits::MAX_PKT_BUF_SIZE;
 use defs::limits::VSOCK_PKT_HDR_SIZE;
 use packet::Decoded;
+use text::named;
 use text::number;
 use text::say;
 
@@ -46,8 +47,7 @@ fn filled() -> [u8; MAX_PKT_BUF_SIZE] {
 }
 
 fn decoded(bytes: &[u8]) {
-    say(b"decode of");
-    number(bytes.len() as u64);
+    named(b"decode of", bytes.len() as u64);
     say(b" bytes:");
     match packet::decode(bytes) {
         Decoded::Header(_) => answer(Answer::Done),
@@ -78,8 +78,7 @@ fn encoded(out: &mut [u8], was: &[u8]) {
     let Decoded::Header(hdr) = packet::decode(&zero) else {
         return;
     };
-    say(b"encode into");
-    number(out.len() as u64);
+    named(b"encode into", out.len() as u64);
     say(b" bytes:");
     answer(packet::encode(hdr, out));
     unchanged(check::same(out, was));
@@ -95,8 +94,7 @@ fn unchanged(same: bool) {
 
 // A header of one byte value throughout comes back as it was: how many do, from 0 on.
 fn byte_values() {
-    say(b"byte values that come back:");
-    number(come_back());
+    named(b"byte values that come back:", come_back());
     say(b"\n");
 }
 
@@ -167,8 +165,7 @@ fn settings() {
     ring_size(24);
     ring_size(limits::MAX_RING_SIZE);
     ring_size(2 * limits::MAX_RING_SIZE);
-    say(b"\nthreshold of a ring of");
-    number(RING as u64);
+    named(b"\nthreshold of a ring of", RING as u64);
     say(b":");
     threshold(limits::MIN_THRESHOLD - 1);
     threshold(limits::MIN_THRESHOLD);
@@ -258,7 +255,7 @@ fn copies() {
     let src = marked();
     let mut dst = [0u8; LONG];
     defs::copy(&mut dst, &src);
-    text::named(b"a copy of", LONG as u64);
+    named(b"a copy of", LONG as u64);
     say(b" bytes is the source:");
     test(LONG as u64, check::same(&dst, &src));
     say(b"\n");
