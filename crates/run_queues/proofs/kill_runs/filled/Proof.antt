@@ -1,7 +1,7 @@
 use Prim.Native.Nat.{_-_, _≤_}
 use borrow.Author.Needs.{needs}
-use Rattle.run_queues.proofs.kill_filled.Statement.{statement}
-use Rattle.run_queues.proofs.kill_filled.Tie as tie
+use Rattle.run_queues.proofs.kill_runs.filled.Statement.{statement}
+use Rattle.run_queues.proofs.kill_runs.filled.Tie as tie
 
 abbrev Inv-loop : tie.InvT-loop
 Inv-loop n queue₀ i₀ queue i = i ≤ n
@@ -9,8 +9,8 @@ Inv-loop n queue₀ i₀ queue i = i ≤ n
 abbrev μ-loop : tie.MeasureT-loop
 μ-loop n queue₀ i₀ queue i = n - i
 
-pub kill-filled-spec : {M : Type 1} → statement M
-kill-filled-spec =
+pub filled-spec : {M : Type 1} → statement M
+filled-spec =
     tie.close
     (tie.spec
     Inv-loop

@@ -1,13 +1,14 @@
 use Prim.Native.Nat.{_-_, _≤_}
+use Rattle.defs.specs.Limits.{maxSlots}
 use borrow.Author.Needs.{needs}
-use Rattle.run_queues.proofs.many_ports.Statement.{statement}
-use Rattle.run_queues.proofs.many_ports.Tie as tie
+use Rattle.run_queues.proofs.shared.many_ports.Statement.{statement}
+use Rattle.run_queues.proofs.shared.many_ports.Tie as tie
 
 abbrev Inv-loop : tie.InvT-loop
-Inv-loop ports₀ i₀ ports i = i ≤ 512
+Inv-loop ports₀ i₀ ports i = i ≤ maxSlots
 
 abbrev μ-loop : tie.MeasureT-loop
-μ-loop ports₀ i₀ ports i = 512 - i
+μ-loop ports₀ i₀ ports i = maxSlots - i
 
 pub many-ports-spec : {M : Type 1} → statement M
 many-ports-spec =
