@@ -2,8 +2,8 @@ use Prim.Native.Nat.{_-_, _≤_}
 use native.Mathlib.Omega.{arith}
 use lib.ListN.{length}
 use borrow.Author.Needs.{needs}
-use Rattle.carry.proofs.can_end.Statement.{statement}
-use Rattle.carry.proofs.can_end.Tie as tie
+use Rattle.carry.proofs.moods.can_end.Statement.{statement}
+use Rattle.carry.proofs.moods.can_end.Tie as tie
 
 abbrev Inv-loop : tie.InvT-loop
 Inv-loop moods good₀ takes₀ i₀ good takes i = i ≤ length moods

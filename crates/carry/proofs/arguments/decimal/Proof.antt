@@ -2,8 +2,8 @@ use Prim.Native.Nat.{_-_, _≤_}
 use native.Mathlib.Omega.{arith}
 use lib.ListN.{length}
 use borrow.Author.Needs.{needs}
-use Rattle.carry.proofs.decimal.Statement.{statement}
-use Rattle.carry.proofs.decimal.Tie as tie
+use Rattle.carry.proofs.arguments.decimal.Statement.{statement}
+use Rattle.carry.proofs.arguments.decimal.Tie as tie
 
 abbrev Inv-loop : tie.InvT-loop
 Inv-loop digits value₀ i₀ value i = i ≤ length digits

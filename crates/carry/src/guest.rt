@@ -1,0 +1,161 @@
+// The guest's end: it hears what the core says, and cuts the input into packets.
+use crate::host;
+use crate::moods::mood;
+use crate::moods::next;
+use crate::trip;
+use crate::trip::Trip;
+use connection::VsockConnection;
+use defs::ReadAnswer;
+use defs::StreamAnswer;
+use defs::StreamAnswers;
+use defs::limits;
+use defs::limits::VSOCK_PKT_HDR_SIZE;
+use libc::STDIN_FILENO;
+use packet::Decoded;
+use packet::VsockPacketHdr;
+use packet::uapi;
+
+pub fn listen(trip: Trip) -> Trip {
+    let conn = trip.conn;
+    let due = conn.has_pending_rx();
+    if due.holds {
+        return hear(trip);
+    }
+    trip
+}
+
+// One header of the core's: it tells the guest our space and count, and whether it is over.
+fn hear(trip: Trip) -> Trip {
+    let mut hdr = [0u8; VSOCK_PKT_HDR_SIZE];
+    let mut nothing = [0u8; 0];
+    let before = trip.conn;
+    let got = before.recv_pkt(
+        &mut hdr,
+        false,
+        &mut nothing,
+        0,
+        ReadAnswer::WouldBlock,
+        b"",
+    );
+    let answer = got.answer;
+    let conn = got.conn;
+    let t = trip::moved(trip, conn, answer);
+    heard(t, &hdr)
+}
+
+fn heard(trip: Trip, hdr: &[u8]) -> Trip {
+    let mut t = trip;
+    let Decoded::Header(said) = packet::decode(hdr) else {
+        return t;
+    };
+    t.alloc = said.buf_alloc;
+    t.heard = said.fwd_cnt;
+    if said.op == uapi::VSOCK_OP_RST {
+        t.over = true;
+    }
+    if said.op == uapi::VSOCK_OP_CREDIT_UPDATE {
+        t.updates = trip::add(t.updates, 1);
+    }
+    t
+}
+
+// As much of the input as packet and credit allow. Without credit the guest asks for news, and at
+// the end of the input it shuts down.
+pub fn bring(
+    trip: Trip,
+    packet: usize,
+    moods: &[u8],
+    storage: &mut [u8],
+    buf: &mut [u8],
+    out: &mut [u8],
+) -> Trip {
+    if trip.ended | trip.over {
+        return trip;
+    }
+    let credit = defs::peer_avail_credit(trip.alloc, trip.sent, trip.heard);
+    let n = defs::smaller(packet, credit as usize);
+    if n == 0 {
+        let op = uapi::VSOCK_OP_CREDIT_REQUEST;
+        return deliver(trip, op, 0, b"", moods, storage, out);
+    }
+    let got = fill(buf, n);
+    if got <= 0 {
+        return close(trip, got < 0, moods, storage, out);
+    }
+    let data = text::front(buf, io::count(got, buf));
+    deliver(trip, uapi::VSOCK_OP_RW, 0, data, moods, storage, out)
+}
+
+fn fill(buf: &mut [u8], n: usize) -> isize {
+    let k = text::fitting(n, buf);
+    libc::read(STDIN_FILENO, &mut buf[..k])
+}
+
+fn close(trip: Trip, unread: bool, moods: &[u8], storage: &mut [u8], out: &mut [u8]) -> Trip {
+    let mut t = trip;
+    t.ended = true;
+    t.unread = unread;
+    let op = uapi::VSOCK_OP_SHUTDOWN;
+    deliver(t, op, 3, b"", moods, storage, out)
+}
+
+// A packet of the guest's. Where the core would write it at once, the stream is tried first.
+fn deliver(
+    trip: Trip,
+    op: u16,
+    flags: u32,
+    data: &[u8],
+    moods: &[u8],
+    storage: &mut [u8],
+    out: &mut [u8],
+) -> Trip {
+    let mut hdr = [0u8; VSOCK_PKT_HDR_SIZE];
+    let len = length_of(data);
+    heading(op, flags, len, &mut hdr);
+    let before = trip.conn;
+    let first = tried(before, &hdr, data, storage, mood(moods, trip.writes));
+    let second = StreamAnswer::WouldBlock;
+    let answers = StreamAnswers { first, second };
+    let after = before.send_pkt(&hdr, true, data, 0, storage, answers, out);
+    let answer = after.answer;
+    let conn = after.conn;
+    let mut t = trip::moved(trip, conn, answer);
+    t.writes = next(t.writes, moods.len());
+    t.sent = defs::wrapping_add(t.sent, len);
+    t.packets = trip::add(t.packets, 1);
+    t.bytes_in = trip::add_len(t.bytes_in, len);
+    t.taken = trip::add_count(t.taken, first);
+    t
+}
+
+// The packets are cut to the limit: 0 never comes of more.
+fn length_of(data: &[u8]) -> u32 {
+    let n = data.len();
+    if limits::is_packet_length(n) {
+        return n as u32;
+    }
+    0
+}
+
+fn heading(op: u16, flags: u32, len: u32, hdr: &mut [u8]) {
+    let pkt = VsockPacketHdr {
+        src_cid: trip::GUEST_CID,
+        dst_cid: trip::HOST_CID,
+        src_port: trip::GUEST_PORT,
+        dst_port: trip::HOST_PORT,
+        len,
+        type_: uapi::VSOCK_TYPE_STREAM,
+        op,
+        flags,
+        buf_alloc: trip::GUEST_SPACE,
+        fwd_cnt: 0,
+    };
+    packet::encode(pkt, hdr);
+}
+
+fn tried(conn: VsockConnection, hdr: &[u8], data: &[u8], storage: &[u8], mood: u8) -> StreamAnswer {
+    if conn.send_writes(hdr, true, data, 0, storage) {
+        return host::offer(conn.send_offered(hdr, true, data, 0, storage), mood);
+    }
+    StreamAnswer::WouldBlock
+}

@@ -1,0 +1,123 @@
+// Where the two ends of a trip stand, and the account that is kept of it.
+use connection::Settings;
+use connection::VsockConnection;
+use defs::Answer;
+use defs::StreamAnswer;
+use defs::limits::MAX_TIMEOUT_MS;
+
+// The connection's addresses, and the space that the guest says it has.
+pub const HOST_CID: u64 = 2;
+
+pub const GUEST_CID: u64 = 3;
+
+pub const HOST_PORT: u32 = 1024;
+
+pub const GUEST_PORT: u32 = 5000;
+
+pub const GUEST_SPACE: u32 = 65536;
+
+pub struct Trip {
+    pub conn: VsockConnection,
+    // The guest's end: what it has sent, and the space and the count that it last heard of.
+    pub sent: u32,
+    pub alloc: u32,
+    pub heard: u32,
+    // The input has ended; the connection has been reset; a call was refused.
+    pub ended: bool,
+    pub over: bool,
+    pub refused: u8,
+    // The input could not be read.
+    pub unread: bool,
+    // Which mood the stream is in.
+    pub writes: usize,
+    pub packets: u64,
+    pub bytes_in: u64,
+    pub taken: u64,
+    pub most: u32,
+    pub updates: u64,
+}
+
+// A connection that the guest opened, with a ring of this size, and nothing sent yet.
+pub fn opened(size: u32) -> Trip {
+    let settings = Settings {
+        threshold: size / 2,
+        request_timeout: 2000,
+        shutdown_timeout: MAX_TIMEOUT_MS,
+    };
+    let opening = VsockConnection::new_peer_init(
+        size,
+        settings,
+        HOST_CID,
+        GUEST_CID,
+        HOST_PORT,
+        GUEST_PORT,
+        GUEST_SPACE,
+    );
+    let conn = opening.conn;
+    Trip {
+        conn,
+        sent: 0,
+        alloc: 0,
+        heard: 0,
+        ended: false,
+        over: false,
+        refused: 0,
+        unread: false,
+        writes: 0,
+        packets: 0,
+        bytes_in: 0,
+        taken: 0,
+        most: 0,
+        updates: 0,
+    }
+}
+
+pub fn goes_on(t: Trip) -> bool {
+    !t.over & (t.refused == 0)
+}
+
+// The connection as a call left it, and whether the call was refused.
+pub fn moved(trip: Trip, conn: VsockConnection, answer: Answer) -> Trip {
+    let ring = conn.tx_buf;
+    let mut t = trip;
+    t.conn = conn;
+    t.refused = refusal(answer);
+    t.most = larger(t.most, ring.used());
+    t
+}
+
+// Answers 1 to 6; "nothing to say" is no refusal.
+fn refusal(answer: Answer) -> u8 {
+    let n = defs::number_of(answer);
+    if n < 7 {
+        return n;
+    }
+    0
+}
+
+fn larger(a: u32, b: u32) -> u32 {
+    if a < b { b } else { a }
+}
+
+pub fn add(a: u64, b: u64) -> u64 {
+    if u64::MAX - a < b {
+        return u64::MAX;
+    }
+    a + b
+}
+
+pub fn add_len(a: u64, len: u32) -> u64 {
+    add(a, len as u64)
+}
+
+pub fn add_count(a: u64, answer: StreamAnswer) -> u64 {
+    add(a, count_of(answer) as u64)
+}
+
+// As many bytes as the stream took.
+pub fn count_of(answer: StreamAnswer) -> usize {
+    let StreamAnswer::Count(n) = answer else {
+        return 0;
+    };
+    n
+}
