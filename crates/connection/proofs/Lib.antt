@@ -6,6 +6,7 @@ pub mod ReceiveLaws
 pub mod SendLaws
 pub mod NotifyLaws
 pub mod AnswerLaws
+pub mod OutcomeLaws
 pub mod OfferLaws
 pub mod MovesLaws
 pub mod RunLaws

@@ -1,12 +1,14 @@
--- The promises of specs/Promises and specs/Answers, Runs and Stories, each by its law. Assumes nothing.
+-- The promises of specs/Promises and specs/Answers, Outcomes, Runs and Stories, each by its law. Assumes nothing.
 use Rattle.defs.proofs.Pins.{by-equation}
 use Rattle.connection.specs.Promises.{SendMoves, NotifyMoves, SendCountedOff, NotifyCountedOff, NotifyOffersPieces, ReadWithinAsked, ReceiveKeeps, KillKeeps, EdgesHold, EachCallPinned}
 use Rattle.connection.specs.Answers.{SendAnswers, RecvAnswers, NotifyAnswers, RawAnswers}
+use Rattle.connection.specs.Outcomes.{RefusalsChangeNothing, EverySendHears, EverySendAccepts, UpdateIsDue, EveryTurnLeaves, HeaderTells, SevenAndEightLeave, EveryKillKills, EveryPollPolls, ExpiryMeans}
 use Rattle.connection.specs.Runs.{EveryRunForwards, CutsDoNotMatter, FlagsOnlyGrow, Drains}
 use Rattle.connection.specs.Stories.{StoriesHold}
 use Rattle.connection.proofs.Edges as edges
 use Rattle.connection.proofs.AnswerLaws as answers
 use Rattle.connection.proofs.MovesLaws as moves
+use Rattle.connection.proofs.OutcomeLaws as outcomes
 use Rattle.connection.proofs.RunLaws as forwarding
 use Rattle.connection.proofs.FlagLaws as flags
 use Rattle.connection.proofs.DrainLaws as draining
@@ -48,6 +50,36 @@ receive-keeps = moves.receive-keeps
 
 pub kill-keeps : KillKeeps
 kill-keeps = moves.kill-keeps
+
+pub refusals-change-nothing : RefusalsChangeNothing
+refusals-change-nothing = outcomes.refusals-change-nothing
+
+pub every-send-hears : EverySendHears
+every-send-hears = outcomes.every-send-hears
+
+pub every-send-accepts : EverySendAccepts
+every-send-accepts = outcomes.every-send-accepts
+
+pub update-is-due : UpdateIsDue
+update-is-due = outcomes.update-is-due
+
+pub every-turn-leaves : EveryTurnLeaves
+every-turn-leaves = outcomes.every-turn-leaves
+
+pub header-tells : HeaderTells
+header-tells = outcomes.header-tells
+
+pub seven-and-eight-leave : SevenAndEightLeave
+seven-and-eight-leave = outcomes.seven-and-eight-leave
+
+pub every-kill-kills : EveryKillKills
+every-kill-kills = outcomes.every-kill-kills
+
+pub every-poll-polls : EveryPollPolls
+every-poll-polls = outcomes.every-poll-polls
+
+pub expiry-means : ExpiryMeans
+expiry-means = outcomes.expiry-means
 
 pub every-run-forwards : EveryRunForwards
 every-run-forwards = forwarding.every-run-forwards

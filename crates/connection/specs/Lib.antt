@@ -11,4 +11,5 @@ pub mod Moves
 pub mod Runs
 pub mod Stories
 pub mod Edges
+pub mod Outcomes
 pub mod Promises

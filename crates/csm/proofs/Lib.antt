@@ -1,3 +1,5 @@
 pub mod StateLaws
 pub mod TurnLaws
+pub mod MeansLaws
+pub mod SaidLaws
 pub mod Promises

@@ -1,6 +1,10 @@
 -- The promises of specs/Promises, each by its law. Assumes nothing.
 use Rattle.defs.proofs.Pins.{by-equation}
 use Rattle.csm.specs.Promises.{SaysWhatWasRead, TurnAnswers, ShutOnlyGrows, EachCallPinned}
+use Rattle.csm.specs.Said.{SaysFirstPending, SevenAndEightAlwaysLeave}
+use Rattle.csm.specs.Means.{EveryStateMeans, EveryTimerMeans}
+use Rattle.csm.proofs.MeansLaws as means
+use Rattle.csm.proofs.SaidLaws as said
 use Rattle.csm.proofs.StateLaws as states
 use Rattle.csm.proofs.TurnLaws as turns
 
@@ -12,6 +16,18 @@ turn-answers = turns.turn-answers
 
 pub shut-only-grows : ShutOnlyGrows
 shut-only-grows = states.shut-only-grows
+
+pub every-state-means : EveryStateMeans
+every-state-means = means.every-state-means
+
+pub every-timer-means : EveryTimerMeans
+every-timer-means = means.every-timer-means
+
+pub says-first-pending : SaysFirstPending
+says-first-pending = said.says-first-pending
+
+pub seven-and-eight : SevenAndEightAlwaysLeave
+seven-and-eight = said.seven-and-eight
 
 pub each-call-pinned : EachCallPinned
 each-call-pinned = record {

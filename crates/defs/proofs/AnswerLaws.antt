@@ -1,5 +1,6 @@
 -- Laws of answers: what is done, what is not, and that `told` tells them apart. Assumes nothing.
-use mathlib.Core.Path.{_≡_, refl, sym, ap, _∙_}
+use mathlib.Core.Path.{_≡_, refl, sym, ap, subst, _∙_}
+use mathlib.Core.Logic.{⊎-elim}
 use mathlib.Core.Bool.{Bool, true, false}
 use mathlib.Core.List.{List, [], _∷_}
 use Prim.Native.Nat.{ℕ}
@@ -12,7 +13,8 @@ use Rattle.defs.specs.Answer.{Told, told, isDone, whenDone}
 use Rattle.defs.specs.declared.answer.Answer.{Answer}
 use Rattle.defs.specs.declared.answer.Answer.the-variants.{Done, BadRecord, BadHeader, BadClock, BadLength, BadAnswer, NoRoom, NoData, PktBufMissing, TxBufFull, StreamBlocked, StreamFailed, NotQueued}
 use Rattle.defs.proofs.answer.Answer.{the-type}
-use Rattle.defs.proofs.Basics.{never}
+use Rattle.defs.specs.Promises.{Refuses}
+use Rattle.defs.proofs.Basics.{never, true-or-false}
 use Rattle.defs.proofs.ChoiceLaws.{when-true, when-false, when-holds}
 
 -- what the code knows past a `let Answer::Done = a else`: one of the other cases
@@ -125,3 +127,21 @@ outcome-done make a p x y e d = rw (← e) (ap (make (told a)) (sym (when-done a
 pub answer-told : {Out : Type 0} (answer : Out → Told) (a : Answer) (x y : Out) → answer x ≡ told Done → answer y ≡ told a → answer (whenDone a x y) ≡ told a
 unfolding whenDone
 answer-told answer a x y e f = when-holds (λ (o : _). answer o ≡ told a) (isDone a) x y (λ t. e ∙ ap told (sym (is-done a t))) (λ t. f)
+
+-- a call that is done where its answer passes, and keeps what it was given where not: number 0 is done
+pub left-done : {Out : Type 0} (answer : Out → Told) (a : Answer) (x y o : Out) → answer y ≡ told a → o ≡ whenDone a x y → answer o .number ≡ 0 → o ≡ x
+left-done answer a x y o f e n =
+    ⊎-elim
+    (λ (t : isDone a ≡ true). e ∙ when-done a x y (is-done a t))
+    (λ (t : isDone a ≡ false).
+    let z : o ≡ y = e ∙ when-not-done a x y t in
+    e ∙ when-done a x y (number-zero a (ap (λ (w : Told). w .number) (sym f ∙ ap answer (sym z)) ∙ n)))
+    (true-or-false (isDone a))
+
+-- and a refusal keeps, where what is done is none
+pub left-kept : {Out : Type 0} (answer : Out → Told) (a : Answer) (x y o : Out) → (Refuses (answer x) → ⊥) → o ≡ whenDone a x y → Refuses (answer o) → o ≡ y
+left-kept answer a x y o f e r =
+    ⊎-elim
+    (λ (t : isDone a ≡ true). absurd (f (subst (λ (z : _). Refuses (answer z)) (e ∙ when-done a x y (is-done a t)) r)))
+    (λ (t : isDone a ≡ false). e ∙ when-not-done a x y t)
+    (true-or-false (isDone a))

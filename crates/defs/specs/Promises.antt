@@ -38,6 +38,10 @@ FirstInTurn rows n = (i : ℕ) × (rowAt rows i .0 ≡ n) × (rowAt rows i .1 �
 pub record AnswersInTurn (t : Told) (rows : List (ℕ × Bool)) : Type 0 where
   pub exactly : (n : ℕ) → Exactly (t .number ≡ n) (FirstInTurn rows n)
 
+-- a refusal that changes nothing: a number from 1 to 6
+abbrev pub Refuses : Told → Type 0
+Refuses t = (1 ≤ t .number) × (t .number ≤ 6)
+
 -- the ladder does so, rows 1 to 6
 abbrev pub LowestNumber : Type 0
 LowestNumber =
