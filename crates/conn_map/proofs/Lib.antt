@@ -1,3 +1,5 @@
 pub mod Edges
+pub mod SortLaws
+pub mod DistinctLaws
 pub mod TableLaws
 pub mod Promises

@@ -1,4 +1,5 @@
 pub mod Key
 pub mod Table
+pub mod Distinct
 pub mod Edges
 pub mod Promises

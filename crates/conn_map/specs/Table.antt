@@ -1,9 +1,9 @@
 -- The connection table over lent slices (01, "The numbers of a connection"): its slots, and when it is sound. Assumes nothing.
-use Prim.Native.Nat.{ℕ, suc, zero, _+_, _-_, _%_}
+use Prim.Native.Nat.{ℕ, suc, zero}
 use mathlib.Core.Bool.{Bool, false, not, _&&_, _||_}
 use mathlib.Core.List.{List, [], _∷_, map}
 use lib.ListN.{length, getD}
-use lib.Dec.{eqb, leb}
+use lib.Dec.{eqb}
 use Rattle.defs.specs.Choice.{when}
 use Rattle.defs.specs.Limits.{isSlotCount}
 use Rattle.conn_map.specs.Key.{keyOf}
@@ -63,24 +63,3 @@ distinct ports used =
 unfoldable pub soundTable : List ℕ → List ℕ → ℕ → Bool
 soundTable ports used marks =
     isSlotCount (length ports) && (eqb (length used) (length ports) && (eqb marks (length ports) && distinct ports used))
-
--- ---- the same by probing, as the code tests it
-
--- where ports are sought first
-unfoldable pub homeOf : ℕ → ℕ → ℕ
-homeOf key n = key % n
-
--- one of the n slots from slot a on is used, with these ports
-unfoldable pub seen : List ℕ → List ℕ → ℕ → ℕ → ℕ → Bool
-seen ports used key a n = anyBelow (λ (i : ℕ). hit ports used key (a + i)) n
-
--- a used slot between the home of its ports and slot s, going up and round, has them
-unfoldable pub behind : List ℕ → List ℕ → ℕ → Bool
-behind ports used s =
-    let key : ℕ = getD ports s 0 in
-    let h : ℕ = homeOf key (length ports) in
-    when (leb h s) (seen ports used key h (s - h)) (seen ports used key h (length ports - h) || seen ports used key 0 s)
-
--- no used slot has another of its ports behind it
-unfoldable pub probes : List ℕ → List ℕ → Bool
-probes ports used = not (anyBelow (λ (s : ℕ). usedAt used s && behind ports used s) (length ports))
