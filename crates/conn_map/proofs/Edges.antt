@@ -2,9 +2,13 @@
 use mathlib.Core.Path.{refl}
 use Rattle.defs.specs.Limits.{isSlotCount}
 use Rattle.conn_map.specs.Table.{usedAt, anyBelow, hit, distinct, soundTable}
-use Rattle.conn_map.specs.Edges.{lastPair}
+use Rattle.conn_map.specs.Edges.{lastPair, farPair, sameMark}
 use Rattle.conn_map.specs.Promises.{EdgesHold}
 
 pub edges-hold : EdgesHold
-unfolding isSlotCount usedAt anyBelow hit distinct soundTable lastPair
-edges-hold = record { last-pair = (refl, (refl, (refl, (refl, tt)))) }
+unfolding isSlotCount usedAt anyBelow hit distinct soundTable lastPair farPair sameMark
+edges-hold = record {
+  last-pair = (refl, (refl, (refl, (refl, tt))));
+  far-pair = (refl, (refl, (refl, (refl, tt))));
+  same-mark = (refl, (refl, (refl, tt)));
+}

@@ -1,5 +1,5 @@
 -- The edges of a table's soundness, computed (01, "The numbers of a connection"). Assumes nothing.
-use Prim.Native.Nat.{ℕ}
+use Prim.Native.Nat.{ℕ, _+_, _*_, _^_}
 use mathlib.Core.Bool.{true, false}
 use mathlib.Core.List.{List, [], _∷_}
 use Rattle.defs.specs.Reading.{Reading, _reads_}
@@ -16,4 +16,25 @@ lastPair =
     ∷ (soundTable three (1 ∷ 1 ∷ 0 ∷ []) 3 reads true)
     ∷ (soundTable three (1 ∷ 0 ∷ 1 ∷ []) 3 reads true)
     ∷ (soundTable (5 ∷ 7 ∷ []) (1 ∷ 1 ∷ []) 2 reads true)
+    ∷ []
+
+-- eight slots, of which the first and the last have the same ports
+abbrev eight : List ℕ
+eight = 9 ∷ 8 ∷ 7 ∷ 6 ∷ 5 ∷ 4 ∷ 3 ∷ 9 ∷ []
+
+-- the same ports with many between them: sound only if one of the two is not used
+unfoldable pub farPair : List Reading
+farPair =
+    (soundTable eight (1 ∷ 1 ∷ 1 ∷ 1 ∷ 1 ∷ 1 ∷ 1 ∷ 1 ∷ []) 8 reads false)
+    ∷ (soundTable eight (0 ∷ 1 ∷ 1 ∷ 1 ∷ 1 ∷ 1 ∷ 1 ∷ 1 ∷ []) 8 reads true)
+    ∷ (soundTable eight (1 ∷ 1 ∷ 1 ∷ 1 ∷ 1 ∷ 1 ∷ 1 ∷ 0 ∷ []) 8 reads true)
+    ∷ (soundTable eight (1 ∷ 0 ∷ 0 ∷ 0 ∷ 0 ∷ 0 ∷ 0 ∷ 1 ∷ []) 8 reads false)
+    ∷ []
+
+-- the same peer port with other local ports, and other ports with the same mark (8,117 places): sound
+unfoldable pub sameMark : List Reading
+sameMark =
+    (soundTable (5 ∷ (2 ^ 32 + 5) ∷ (2 * 2 ^ 32 + 5) ∷ []) (1 ∷ 1 ∷ 1 ∷ []) 3 reads true)
+    ∷ (soundTable (5 ∷ 8122 ∷ 16239 ∷ []) (1 ∷ 1 ∷ 1 ∷ []) 3 reads true)
+    ∷ (soundTable (5 ∷ 8122 ∷ 5 ∷ []) (1 ∷ 1 ∷ 1 ∷ []) 3 reads false)
     ∷ []

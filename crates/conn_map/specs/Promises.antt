@@ -9,7 +9,7 @@ use Rattle.defs.specs.Pinned.{Pinned}
 use Rattle.defs.specs.Promises.{Exactly}
 use Rattle.defs.specs.Reading.{Hold}
 use Rattle.conn_map.specs.Key.{keyOf}
-use Rattle.conn_map.specs.Edges.{lastPair}
+use Rattle.conn_map.specs.Edges.{lastPair, farPair, sameMark}
 use Rattle.conn_map.specs.Table.{usedAt, soundTable}
 use Rattle.conn_map.specs.declared.key.ConnMapKey.{ConnMapKey}
 
@@ -27,6 +27,8 @@ SoundMeansDistinct =
 -- the edges of the test, computed
 pub record EdgesHold : Type 0 where
   pub last-pair : Hold lastPair
+  pub far-pair : Hold farPair
+  pub same-mark : Hold sameMark
 
 -- one number for both ports tells keys apart
 abbrev pub PortsTellKeys : Type 0
