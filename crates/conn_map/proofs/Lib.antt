@@ -3,3 +3,4 @@ pub mod SortLaws
 pub mod DistinctLaws
 pub mod TableLaws
 pub mod Promises
+pub mod Pinned

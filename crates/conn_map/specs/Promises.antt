@@ -1,17 +1,15 @@
 -- What this crate promises, in statements only; proofs/Promises has a line for each. Assumes nothing.
 use Prim.Native.Nat.{ℕ, _<_}
 use mathlib.Core.Path.{_≡_}
-use mathlib.Core.Bool.{Bool, true}
+use mathlib.Core.Bool.{true}
 use mathlib.Core.List.{List}
 use lib.ListN.{length, getD}
 use Rattle.defs.specs.Limits.{isSlotCount}
-use Rattle.defs.specs.Pinned.{Pinned}
 use Rattle.defs.specs.Promises.{Exactly}
 use Rattle.defs.specs.Reading.{Hold}
 use Rattle.conn_map.specs.Key.{keyOf}
 use Rattle.conn_map.specs.Edges.{lastPair, farPair, sameMark}
 use Rattle.conn_map.specs.Table.{usedAt, soundTable}
-use Rattle.conn_map.specs.declared.key.ConnMapKey.{ConnMapKey}
 
 -- 01: no two used slots have the same ports
 abbrev pub NoTwoAlike : List ℕ → List ℕ → Type 0
@@ -33,13 +31,3 @@ pub record EdgesHold : Type 0 where
 -- one number for both ports tells keys apart
 abbrev pub PortsTellKeys : Type 0
 PortsTellKeys = (a b : ℕ) → keyOf a ≡ keyOf b → a ≡ b
-
-pub record TableIn : Type 0 where
-  pub ports : List ℕ
-  pub used : List ℕ
-  pub marks : ℕ
-
--- every public call: any two outcomes that meet its contract are identical
-pub record EachCallPinned : Type 0 where
-  pub key-of : Pinned ℕ ConnMapKey (λ ports r. r ≡ keyOf ports)
-  pub is-sound : Pinned TableIn Bool (λ i r. r ≡ soundTable (i .ports) (i .used) (i .marks))

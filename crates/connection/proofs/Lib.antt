@@ -14,3 +14,4 @@ pub mod FlagLaws
 pub mod DrainLaws
 pub mod Stories
 pub mod Promises
+pub mod Pinned

@@ -1,6 +1,5 @@
 -- The promises of specs/Promises and specs/Answers, Outcomes, Runs and Stories, each by its law. Assumes nothing.
-use Rattle.defs.proofs.Pins.{by-equation}
-use Rattle.connection.specs.Promises.{SendMoves, NotifyMoves, SendCountedOff, NotifyCountedOff, NotifyOffersPieces, ReadWithinAsked, ReceiveKeeps, KillKeeps, EdgesHold, EachCallPinned}
+use Rattle.connection.specs.Promises.{SendMoves, NotifyMoves, SendCountedOff, NotifyCountedOff, NotifyOffersPieces, ReadWithinAsked, ReceiveKeeps, KillKeeps, EdgesHold}
 use Rattle.connection.specs.Answers.{SendAnswers, RecvAnswers, NotifyAnswers, RawAnswers}
 use Rattle.connection.specs.Outcomes.{RefusalsChangeNothing, EverySendHears, EverySendAccepts, UpdateIsDue, EveryTurnLeaves, HeaderTells, SevenAndEightLeave, EveryKillKills, EveryPollPolls, ExpiryMeans}
 use Rattle.connection.specs.Runs.{EveryRunForwards, CutsDoNotMatter, FlagsOnlyGrow, Drains}
@@ -98,30 +97,3 @@ stories-hold = stories.stories-hold
 
 pub edges-hold : EdgesHold
 edges-hold = edges.edges-hold
-
-pub each-call-pinned : EachCallPinned
-each-call-pinned = record {
-  new-peer-init = by-equation _ _ _;
-  new-local-init = by-equation _ _ _;
-  has-pending-rx = by-equation _ _ _;
-  will-expire = by-equation _ _ _;
-  has-expired = by-equation _ _ _;
-  expiry = by-equation _ _ _;
-  state = by-equation _ _ _;
-  get-polled-evset = by-equation _ _ _;
-  kill = by-equation _ _ _;
-  send-bytes-raw = by-equation _ _ _;
-  recv-pkt = by-equation _ _ _;
-  send-pkt = by-equation _ _ _;
-  notify = by-equation _ _ _;
-  send-door = by-equation _ _ _;
-  send-writes = by-equation _ _ _;
-  send-offered = by-equation _ _ _;
-  recv-door = by-equation _ _ _;
-  recv-asked = by-equation _ _ _;
-  notify-door = by-equation _ _ _;
-  notify-offered = by-equation _ _ _;
-  notify-offered-next = by-equation _ _ _;
-  raw-door = by-equation _ _ _;
-  raw-offered = by-equation _ _ _;
-}

@@ -5,8 +5,7 @@ use mathlib.Core.Bool.{Bool, _&&_}
 use mathlib.Core.List.{List, []}
 use lib.ListN.{length, take}
 use Rattle.defs.specs.Choice.{when}
-use Rattle.defs.specs.Answer.{isDone, whenDone}
-use Rattle.defs.specs.declared.answer.Answer.{Answer}
+use Rattle.defs.specs.Answer.{Told, told, isDone, whenDone}
 use Rattle.packet.specs.Header.{decoded}
 use Rattle.txbuf.specs.Record.{held}
 use Rattle.txbuf.specs.Flush.{firstPiece, secondPiece}
@@ -69,9 +68,9 @@ notifySecond c writable store = when (notifyFlushes c writable (length store)) (
 unfoldable pub rawOffered : VsockConnection → List ℕ → List ℕ
 rawOffered c buf = when (isDone (rawDoor c (length buf))) buf []
 
--- ---- what the functions give, of what a call is given besides the stream's answers
+-- ---- THE STATEMENTS of the functions that tell so, of what a call is given besides the stream's answers
 
-pub record Given : Type 0 where
+pub record SendGiven : Type 0 where
   pub conn : VsockConnection
   pub store : List ℕ
   pub hdr : List ℕ
@@ -79,33 +78,43 @@ pub record Given : Type 0 where
   pub buf : List ℕ
   pub clock : ℕ
 
-abbrev pub SendDoorSays : Given → Answer → Type 0
-SendDoorSays g r = r ≡ sendDoor (g .conn) (length (g .store)) (g .hdr) (g .present) (length (g .buf)) (g .clock)
+-- of a packet: what is answered before the stream is asked, whether a write is made, and what is offered
+abbrev pub SendDoorSays : SendGiven → Told → Type 0
+SendDoorSays g t = t ≡ told (sendDoor (g .conn) (length (g .store)) (g .hdr) (g .present) (length (g .buf)) (g .clock))
 
-abbrev pub SendWritesSays : Given → Bool → Type 0
+abbrev pub SendWritesSays : SendGiven → Bool → Type 0
 SendWritesSays g r = r ≡ sendWrites (g .conn) (length (g .store)) (g .hdr) (g .present) (length (g .buf)) (g .clock)
 
-abbrev pub SendOfferedSays : Given → List ℕ → Type 0
+abbrev pub SendOfferedSays : SendGiven → List ℕ → Type 0
 SendOfferedSays g r = r ≡ sendOffered (g .conn) (length (g .store)) (g .hdr) (g .present) (g .buf) (g .clock)
 
-abbrev pub RecvDoorSays : Given → Answer → Type 0
-RecvDoorSays g r = r ≡ recvDoor (g .conn) (length (g .hdr)) (g .present) (length (g .buf)) (g .clock)
+pub record RecvGiven : Type 0 where
+  pub conn : VsockConnection
+  pub hdr : List ℕ
+  pub present : Bool
+  pub buf : List ℕ
+  pub clock : ℕ
 
-abbrev pub RecvAskedSays : Given → AskedLeft → Type 0
+-- of a turn to speak
+abbrev pub RecvDoorSays : RecvGiven → Told → Type 0
+RecvDoorSays g t = t ≡ told (recvDoor (g .conn) (length (g .hdr)) (g .present) (length (g .buf)) (g .clock))
+
+abbrev pub RecvAskedSays : RecvGiven → AskedLeft → Type 0
 RecvAskedSays g r = r ≡ recvAsked (g .conn) (length (g .hdr)) (g .present) (length (g .buf)) (g .clock)
 
-abbrev pub NotifyDoorSays : Given → Answer → Type 0
-NotifyDoorSays g r = r ≡ notifyDoor (g .conn) (length (g .store))
+-- of an event, an out-event or none
+abbrev pub NotifyDoorSays : VsockConnection → List ℕ → Told → Type 0
+NotifyDoorSays c store t = t ≡ told (notifyDoor c (length store))
 
--- of an out-event, or none
-abbrev pub NotifyOfferedSays : Given × Bool → List ℕ → Type 0
-NotifyOfferedSays g r = r ≡ notifyFirst (g .0 .conn) (g .1) (g .0 .store)
+abbrev pub NotifyOfferedSays : VsockConnection → Bool → List ℕ → List ℕ → Type 0
+NotifyOfferedSays c writable store r = r ≡ notifyFirst c writable store
 
-abbrev pub NotifyNextSays : Given × Bool → List ℕ → Type 0
-NotifyNextSays g r = r ≡ notifySecond (g .0 .conn) (g .1) (g .0 .store)
+abbrev pub NotifyNextSays : VsockConnection → Bool → List ℕ → List ℕ → Type 0
+NotifyNextSays c writable store r = r ≡ notifySecond c writable store
 
-abbrev pub RawDoorSays : Given → Answer → Type 0
-RawDoorSays g r = r ≡ rawDoor (g .conn) (length (g .buf))
+-- of the raw send
+abbrev pub RawDoorSays : VsockConnection → List ℕ → Told → Type 0
+RawDoorSays c buf t = t ≡ told (rawDoor c (length buf))
 
-abbrev pub RawOfferedSays : Given → List ℕ → Type 0
-RawOfferedSays g r = r ≡ rawOffered (g .conn) (g .buf)
+abbrev pub RawOfferedSays : VsockConnection → List ℕ → List ℕ → Type 0
+RawOfferedSays c buf r = r ≡ rawOffered c buf

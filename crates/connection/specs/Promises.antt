@@ -4,18 +4,14 @@ use mathlib.Core.Path.{_≡_}
 use mathlib.Core.Bool.{Bool}
 use mathlib.Core.List.{List, [], _++_}
 use lib.ListN.{take}
-use Rattle.defs.specs.Look.{FlagLeft}
-use Rattle.defs.specs.Pinned.{Pinned}
 use Rattle.defs.specs.Reading.{Hold}
-use Rattle.defs.specs.declared.answer.Answer.{Answer}
 use Rattle.txbuf.specs.Record.{held}
-use Rattle.connection.specs.Open.{Opening, ConnLeft, PeerInitSays, LocalInitSays}
-use Rattle.connection.specs.Look.{PendingSays, Timed, WillExpireSays, HasExpiredSays, ExpiryLeft, ExpirySays, StateLeft, StateSays, EvSetLeft, EvSetSays, KillSays}
-use Rattle.connection.specs.Raw.{RawIn, RawLeft, RawSays}
+use Rattle.connection.specs.Open.{ConnLeft}
+use Rattle.connection.specs.Look.{KillSays}
 use Rattle.connection.specs.Receive.{RecvIn, RecvLeft, RecvSays}
 use Rattle.connection.specs.Send.{SendIn, SendLeft, SendSays, accepted}
 use Rattle.connection.specs.Notify.{NotifyIn, NotifyLeft, NotifySays}
-use Rattle.connection.specs.Offer.{Given, AskedLeft, sendOffers, recvTaken, recvAsks, notifyOffered, notifyOffers, notifyFirst, notifySecond, SendDoorSays, SendWritesSays, SendOfferedSays, RecvDoorSays, RecvAskedSays, NotifyDoorSays, NotifyOfferedSays, NotifyNextSays, RawDoorSays, RawOfferedSays}
+use Rattle.connection.specs.Offer.{sendOffers, recvTaken, recvAsks, notifyOffered, notifyOffers, notifyFirst, notifySecond}
 use Rattle.connection.specs.Moves.{Numbers, account, sendTaken, notifyTaken, Moved}
 use Rattle.connection.specs.Edges.{readingA, readingBCD, readingE, readingF, readingG, readingH, readingI}
 use Rattle.connection.specs.declared.record.VsockConnection.{VsockConnection}
@@ -63,29 +59,3 @@ pub record EdgesHold : Type 0 where
   pub g : Hold readingG
   pub h : Hold readingH
   pub i : Hold readingI
-
--- every public call: any two outcomes that meet its contract are identical
-pub record EachCallPinned : Type 0 where
-  pub new-peer-init : Pinned Opening ConnLeft PeerInitSays
-  pub new-local-init : Pinned Opening ConnLeft LocalInitSays
-  pub has-pending-rx : Pinned VsockConnection FlagLeft PendingSays
-  pub will-expire : Pinned Timed FlagLeft WillExpireSays
-  pub has-expired : Pinned Timed FlagLeft HasExpiredSays
-  pub expiry : Pinned VsockConnection ExpiryLeft ExpirySays
-  pub state : Pinned VsockConnection StateLeft StateSays
-  pub get-polled-evset : Pinned VsockConnection EvSetLeft EvSetSays
-  pub kill : Pinned VsockConnection ConnLeft KillSays
-  pub send-bytes-raw : Pinned RawIn RawLeft RawSays
-  pub recv-pkt : Pinned RecvIn RecvLeft RecvSays
-  pub send-pkt : Pinned SendIn SendLeft SendSays
-  pub notify : Pinned NotifyIn NotifyLeft NotifySays
-  pub send-door : Pinned Given Answer SendDoorSays
-  pub send-writes : Pinned Given Bool SendWritesSays
-  pub send-offered : Pinned Given (List ℕ) SendOfferedSays
-  pub recv-door : Pinned Given Answer RecvDoorSays
-  pub recv-asked : Pinned Given AskedLeft RecvAskedSays
-  pub notify-door : Pinned Given Answer NotifyDoorSays
-  pub notify-offered : Pinned (Given × Bool) (List ℕ) NotifyOfferedSays
-  pub notify-offered-next : Pinned (Given × Bool) (List ℕ) NotifyNextSays
-  pub raw-door : Pinned Given Answer RawDoorSays
-  pub raw-offered : Pinned Given (List ℕ) RawOfferedSays

@@ -8,8 +8,8 @@ use lib.ListN.{take}
 use lib.Dec.{leb, eqb}
 use Rattle.defs.specs.Choice.{when}
 use Rattle.defs.specs.Stream.{counted}
+use Rattle.defs.specs.Answer.{Told}
 use Rattle.defs.specs.Look.{FlagLeft}
-use Rattle.defs.specs.declared.answer.Answer.{Answer}
 use Rattle.runs.specs.Runs as runs
 use Rattle.runs.specs.Runs.{Machine, gathered, Each, Account}
 use Rattle.txbuf.specs.Record.{usedOf, held}
@@ -21,7 +21,7 @@ use Rattle.connection.specs.Receive.{RecvIn, RecvLeft, RecvSays}
 use Rattle.connection.specs.Send.{SendIn, SendLeft, SendSays, accepted}
 use Rattle.connection.specs.Notify.{NotifyIn, NotifyLeft, NotifySays, due}
 use Rattle.connection.specs.Moves.{sendTaken, notifyTaken}
-use Rattle.connection.specs.Offer.{Given, AskedLeft, SendDoorSays, SendWritesSays, SendOfferedSays, RecvDoorSays, RecvAskedSays, NotifyDoorSays, NotifyOfferedSays, NotifyNextSays, RawDoorSays, RawOfferedSays}
+use Rattle.connection.specs.Offer.{SendGiven, RecvGiven, AskedLeft, SendDoorSays, SendWritesSays, SendOfferedSays, RecvDoorSays, RecvAskedSays, NotifyDoorSays, NotifyOfferedSays, NotifyNextSays, RawDoorSays, RawOfferedSays}
 use Rattle.connection.specs.declared.record.VsockConnection.{VsockConnection}
 
 -- ---- calls
@@ -34,16 +34,16 @@ pub data Looking : Type 0 where
   expiry : VsockConnection → ExpiryLeft → Looking
   state : VsockConnection → StateLeft → Looking
   get-polled-evset : VsockConnection → EvSetLeft → Looking
-  send-door : Given → Answer → Looking
-  send-writes : Given → Bool → Looking
-  send-offered : Given → List ℕ → Looking
-  recv-door : Given → Answer → Looking
-  recv-asked : Given → AskedLeft → Looking
-  notify-door : Given → Answer → Looking
-  notify-offered : Given → Bool → List ℕ → Looking
-  notify-offered-next : Given → Bool → List ℕ → Looking
-  raw-door : Given → Answer → Looking
-  raw-offered : Given → List ℕ → Looking
+  send-door : SendGiven → Told → Looking
+  send-writes : SendGiven → Bool → Looking
+  send-offered : SendGiven → List ℕ → Looking
+  recv-door : RecvGiven → Told → Looking
+  recv-asked : RecvGiven → AskedLeft → Looking
+  notify-door : VsockConnection → List ℕ → Told → Looking
+  notify-offered : VsockConnection → Bool → List ℕ → List ℕ → Looking
+  notify-offered-next : VsockConnection → Bool → List ℕ → List ℕ → Looking
+  raw-door : VsockConnection → List ℕ → Told → Looking
+  raw-offered : VsockConnection → List ℕ → List ℕ → Looking
 
 -- the record that it looked at
 abbrev pub lookedAt : Looking → VsockConnection
@@ -58,11 +58,11 @@ lookedAt (send-writes g o) = g .conn
 lookedAt (send-offered g o) = g .conn
 lookedAt (recv-door g o) = g .conn
 lookedAt (recv-asked g o) = g .conn
-lookedAt (notify-door g o) = g .conn
-lookedAt (notify-offered g w o) = g .conn
-lookedAt (notify-offered-next g w o) = g .conn
-lookedAt (raw-door g o) = g .conn
-lookedAt (raw-offered g o) = g .conn
+lookedAt (notify-door c s o) = c
+lookedAt (notify-offered c w s o) = c
+lookedAt (notify-offered-next c w s o) = c
+lookedAt (raw-door c b o) = c
+lookedAt (raw-offered c b o) = c
 
 -- and what its contract says
 abbrev pub LookSays : Looking → Type 0
@@ -77,11 +77,11 @@ LookSays (send-writes g o) = SendWritesSays g o
 LookSays (send-offered g o) = SendOfferedSays g o
 LookSays (recv-door g o) = RecvDoorSays g o
 LookSays (recv-asked g o) = RecvAskedSays g o
-LookSays (notify-door g o) = NotifyDoorSays g o
-LookSays (notify-offered g w o) = NotifyOfferedSays (g, w) o
-LookSays (notify-offered-next g w o) = NotifyNextSays (g, w) o
-LookSays (raw-door g o) = RawDoorSays g o
-LookSays (raw-offered g o) = RawOfferedSays g o
+LookSays (notify-door c s o) = NotifyDoorSays c s o
+LookSays (notify-offered c w s o) = NotifyOfferedSays c w s o
+LookSays (notify-offered-next c w s o) = NotifyNextSays c w s o
+LookSays (raw-door c b o) = RawDoorSays c b o
+LookSays (raw-offered c b o) = RawOfferedSays c b o
 
 -- a call, with what it was given and what it left
 pub data Event : Type 0 where

@@ -2,10 +2,10 @@
 // an out-event flushes the ring.
 ghost use mathlib.Core.Path.{_≡_};
 ghost use Prim.Native.Nat.{_≤_};
-ghost use lib.ListN.{length};
 ghost use Rattle.defs.specs.Answer.{told};
 ghost use Rattle.defs.specs.Limits.{maxRing};
-ghost use Rattle.connection.specs.Notify.{flushDue, seenOf, absorbed, notifyDoor, settledOf, drainedOf, NotifyIn, NotifyLeft, NotifySays};
+ghost use Rattle.connection.specs.Notify.{flushDue, seenOf, absorbed, settledOf, drainedOf, NotifyIn, NotifyLeft, NotifySays};
+ghost use Rattle.connection.specs.Offer.{NotifyDoorSays};
 use crate::record::Outcome;
 use crate::record::VsockConnection;
 use crate::record::is_quiet;
@@ -23,7 +23,7 @@ use txbuf::TxBuf;
 impl VsockConnection {
     // What an event answers of 1 to 4.
     pub fn notify_door(self, storage: &[u8]) -> Answer
-        ensures { λ r. ⌜ r ≡ notifyDoor self (length (now (storage .entry))) ⌝ }
+        ensures { λ r. ⌜ NotifyDoorSays self (now (storage .entry)) (told r) ⌝ }
     {
         let sound = is_sound_over(self, storage.len());
         defs::record_answer(sound)

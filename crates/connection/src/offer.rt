@@ -1,11 +1,8 @@
 // What a call would offer to the stream, or ask of it: for a caller who tries the stream first and
 // hands in its answer after. Nothing where the call's door refuses.
 ghost use mathlib.Core.Path.{_≡_};
-ghost use lib.ListN.{length};
-ghost use Rattle.defs.specs.Answer.{isDone};
-ghost use Rattle.connection.specs.Send.{sendDoor};
-ghost use Rattle.connection.specs.Receive.{recvDoor};
-ghost use Rattle.connection.specs.Offer.{sendWrites, sendOffered, AskedLeft, recvAsked, notifyFlushes, notifyFirst, notifySecond, rawOffered};
+ghost use Rattle.defs.specs.Answer.{told, isDone};
+ghost use Rattle.connection.specs.Offer.{notifyFlushes, SendGiven, SendDoorSays, SendWritesSays, SendOfferedSays, RecvGiven, AskedLeft, RecvDoorSays, RecvAskedSays, NotifyOfferedSays, NotifyNextSays, RawOfferedSays};
 use crate::notify::is_flush_due;
 use crate::receive::door_of;
 use crate::receive::reads;
@@ -35,7 +32,7 @@ impl VsockConnection {
         now_ms: u64,
         storage: &[u8],
     ) -> Answer
-        ensures { λ r. ⌜ r ≡ sendDoor self (length (now (storage .entry))) (now (hdr .entry)) present (length (now (buf .entry))) «now_ms» ⌝ }
+        ensures { λ r. ⌜ SendDoorSays (record { conn = self; store = now (storage .entry); hdr = now (hdr .entry); present = present; buf = now (buf .entry); clock = «now_ms» }) (told r) ⌝ }
     {
         let sound = is_sound_over(self, storage.len());
         let Decoded::Header(pkt) = packet::decode(hdr) else {
@@ -53,7 +50,7 @@ impl VsockConnection {
         now_ms: u64,
         storage: &[u8],
     ) -> bool
-        ensures { λ r. ⌜ r ≡ sendWrites self (length (now (storage .entry))) (now (hdr .entry)) present (length (now (buf .entry))) «now_ms» ⌝ }
+        ensures { λ r. ⌜ SendWritesSays (record { conn = self; store = now (storage .entry); hdr = now (hdr .entry); present = present; buf = now (buf .entry); clock = «now_ms» }) r ⌝ }
     {
         let Decoded::Header(pkt) = packet::decode(hdr) else {
             return false;
@@ -74,7 +71,7 @@ impl VsockConnection {
         now_ms: u64,
         storage: &[u8],
     ) -> &'a [u8]
-        ensures { λ r. ⌜ now r ≡ sendOffered self (length (now (storage .entry))) (now (hdr .entry)) present (now (buf .entry)) «now_ms» ⌝ }
+        ensures { λ r. ⌜ SendOfferedSays (record { conn = self; store = now (storage .entry); hdr = now (hdr .entry); present = present; buf = now (buf .entry); clock = «now_ms» }) (now r) ⌝ }
     {
         let Decoded::Header(pkt) = packet::decode(hdr) else {
             return &buf[..0];
@@ -88,14 +85,14 @@ impl VsockConnection {
 
     // What `recv_pkt` answers of 1 to 4.
     pub fn recv_door(self, hdr: &[u8], present: bool, buf: &[u8], now_ms: u64) -> Answer
-        ensures { λ r. ⌜ r ≡ recvDoor self (length (now (hdr .entry))) present (length (now (buf .entry))) «now_ms» ⌝ }
+        ensures { λ r. ⌜ RecvDoorSays (record { conn = self; hdr = now (hdr .entry); present = present; buf = now (buf .entry); clock = «now_ms» }) (told r) ⌝ }
     {
         door_of(self, hdr.len(), present, buf.len(), now_ms)
     }
 
     // Whether `recv_pkt` reads from the stream, and for how many bytes it asks.
     pub fn recv_asked(self, hdr: &[u8], present: bool, buf: &[u8], now_ms: u64) -> Asked
-        ensures { λ r. ⌜ record { reads = r .reads; count = r .count } ≡ recvAsked self (length (now (hdr .entry))) present (length (now (buf .entry))) «now_ms» ⌝ }
+        ensures { λ r. ⌜ RecvAskedSays (record { conn = self; hdr = now (hdr .entry); present = present; buf = now (buf .entry); clock = «now_ms» }) (record { reads = r .reads; count = r .count }) ⌝ }
     {
         let door = door_of(self, hdr.len(), present, buf.len(), now_ms);
         let reads = is_open(door) & reads(self, present);
@@ -108,7 +105,7 @@ impl VsockConnection {
 
     // What `notify` offers first, as a part of `storage`: empty where no flush is due.
     pub fn notify_offered(self, writable: bool, storage: &[u8]) -> &[u8]
-        ensures { λ r. ⌜ now r ≡ notifyFirst self writable (now (storage .entry)) ⌝ }
+        ensures { λ r. ⌜ NotifyOfferedSays self writable (now (storage .entry)) (now r) ⌝ }
     {
         let ring = self.tx_buf;
         if flushes(self, writable, storage.len()) {
@@ -119,7 +116,7 @@ impl VsockConnection {
 
     // What it offers next, if that was taken whole.
     pub fn notify_offered_next(self, writable: bool, storage: &[u8]) -> &[u8]
-        ensures { λ r. ⌜ now r ≡ notifySecond self writable (now (storage .entry)) ⌝ }
+        ensures { λ r. ⌜ NotifyNextSays self writable (now (storage .entry)) (now r) ⌝ }
     {
         let ring = self.tx_buf;
         if flushes(self, writable, storage.len()) {
@@ -130,7 +127,7 @@ impl VsockConnection {
 
     // What `send_bytes_raw` offers.
     pub fn raw_offered(self, buf: &[u8]) -> &[u8]
-        ensures { λ r. ⌜ now r ≡ rawOffered self (now (buf .entry)) ⌝ }
+        ensures { λ r. ⌜ RawOfferedSays self (now (buf .entry)) (now r) ⌝ }
     {
         let Answer::Done = self.raw_door(buf) else {
             return &buf[..0];

@@ -1,8 +1,7 @@
 // The raw send: straight to the stream, past ring and flow control. No account of it is kept.
-ghost use mathlib.Core.Path.{_≡_};
-ghost use lib.ListN.{length};
 ghost use Rattle.defs.specs.Answer.{told};
-ghost use Rattle.connection.specs.Raw.{rawDoor, RawIn, RawLeft, RawSays};
+ghost use Rattle.connection.specs.Raw.{RawIn, RawLeft, RawSays};
+ghost use Rattle.connection.specs.Offer.{RawDoorSays};
 use crate::record::VsockConnection;
 use crate::record::is_sound;
 use defs::Answer;
@@ -18,7 +17,7 @@ pub struct RawSent {
 impl VsockConnection {
     // What the raw send of `buf` answers of 1 to 4.
     pub fn raw_door(self, buf: &[u8]) -> Answer
-        ensures { λ r. ⌜ r ≡ rawDoor self (length (now (buf .entry))) ⌝ }
+        ensures { λ r. ⌜ RawDoorSays self (now (buf .entry)) (told r) ⌝ }
     {
         let short = limits::is_packet_length(buf.len());
         defs::door(!is_sound(self), false, false, !short)

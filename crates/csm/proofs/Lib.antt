@@ -3,3 +3,4 @@ pub mod TurnLaws
 pub mod MeansLaws
 pub mod SaidLaws
 pub mod Promises
+pub mod Pinned

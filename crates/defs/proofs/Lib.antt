@@ -11,3 +11,4 @@ pub mod CopyLaws
 pub mod Pins
 pub mod Readings
 pub mod Promises
+pub mod Pinned

@@ -1,22 +1,17 @@
 -- What this crate promises, in statements only; proofs/Promises has a line for each. Assumes nothing.
-use Prim.Native.Nat.{ℕ, _+_, _-_, _%_, _^_, _<_, _≤_, min}
+use Prim.Native.Nat.{ℕ, _+_, _-_, _%_, _^_, _<_, _≤_}
 use mathlib.Core.Path.{_≡_}
 use mathlib.Core.Bool.{Bool, true, false, not}
 use mathlib.Core.List.{List, [], _∷_}
 use lib.ListN.{getD}
 use Rattle.defs.specs.Answer.{Told, told}
-use Rattle.defs.specs.Stream.{failed, stoppedBy}
-use Rattle.defs.specs.Limits.{minRing, maxRing, isRingSize, isThreshold, isTimeout, isRxqLimit, isKillqLimit, isSlotCount, isClock, isPacketLength, isHeaderLength}
+use Rattle.defs.specs.Limits.{minRing, maxRing, isRingSize, isClock}
 use Rattle.defs.specs.Ladder.{doorOf, lateOf, lowestOf, recordAnswer, clockAnswer}
-use Rattle.defs.specs.Look.{FlagLeft, FlagSays, LenLeft, LenSays}
 use Rattle.defs.specs.Wrapping.{wadd, wsub}
-use Rattle.defs.specs.Credit.{peerAvailCredit, peerNeedsCreditUpdate}
-use Rattle.defs.specs.Copying.{copied}
-use Rattle.defs.specs.Pinned.{Pinned}
+use Rattle.defs.specs.Credit.{peerAvailCredit}
 use Rattle.defs.specs.Reading.{Hold}
 use Rattle.defs.specs.Edges.{readingE, readingH}
 use Rattle.defs.specs.declared.answer.Answer.{Answer}
-use Rattle.defs.specs.declared.stream.StreamAnswer.{StreamAnswer}
 
 -- each of the two facts holds where the other does
 abbrev pub Exactly : Type 0 → Type 0 → Type 0
@@ -84,32 +79,3 @@ CreditIsFreeSpace =
 pub record EdgesHold : Type 0 where
   pub e : Hold readingE
   pub h : Hold readingH
-
--- every public call: any two outcomes that meet its contract are identical
-pub record EachCallPinned : Type 0 where
-  pub number-of : Pinned Answer ℕ (λ a r. r ≡ told a .number)
-  pub has-failed : Pinned StreamAnswer Bool (λ a r. r ≡ failed a)
-  pub stopped-by : Pinned StreamAnswer Answer (λ a r. r ≡ stoppedBy a)
-  pub is-ring-size : Pinned ℕ Bool (λ n r. r ≡ isRingSize n)
-  pub is-threshold : Pinned (ℕ × ℕ) Bool (λ i r. r ≡ isThreshold (i .0) (i .1))
-  pub is-timeout : Pinned ℕ Bool (λ n r. r ≡ isTimeout n)
-  pub is-rxq-limit : Pinned ℕ Bool (λ n r. r ≡ isRxqLimit n)
-  pub is-killq-limit : Pinned ℕ Bool (λ n r. r ≡ isKillqLimit n)
-  pub is-slot-count : Pinned ℕ Bool (λ n r. r ≡ isSlotCount n)
-  pub is-clock : Pinned ℕ Bool (λ n r. r ≡ isClock n)
-  pub is-packet-length : Pinned ℕ Bool (λ n r. r ≡ isPacketLength n)
-  pub is-header-length : Pinned ℕ Bool (λ n r. r ≡ isHeaderLength n)
-  pub door : Pinned (Bool × Bool × Bool × Bool) Answer (λ i r. r ≡ doorOf (i .0) (i .1) (i .2) (i .3))
-  pub late : Pinned (Bool × Bool) Answer (λ i r. r ≡ lateOf (i .0) (i .1))
-  pub lowest : Pinned (Answer × Answer) Answer (λ i r. r ≡ lowestOf (i .0) (i .1))
-  pub record-answer : Pinned Bool Answer (λ sound r. r ≡ recordAnswer sound)
-  pub clock-answer : Pinned (Bool × ℕ) Answer (λ i r. r ≡ clockAnswer (i .0) (i .1))
-  pub flag-of : Pinned (Answer × Bool) FlagLeft (λ i left. FlagSays (i .0) (i .1) left)
-  pub len-of : Pinned (Answer × ℕ) LenLeft (λ i left. LenSays (i .0) (i .1) left)
-  pub wrapping-add : Pinned (ℕ × ℕ) ℕ (λ i r. r ≡ wadd (i .0) (i .1))
-  pub wrapping-sub : Pinned (ℕ × ℕ) ℕ (λ i r. r ≡ wsub (i .0) (i .1))
-  pub peer-avail-credit : Pinned (ℕ × ℕ × ℕ) ℕ (λ i r. r ≡ peerAvailCredit (i .0) (i .1) (i .2))
-  pub peer-needs-credit-update : Pinned (ℕ × ℕ × ℕ × ℕ) Bool (λ i r. r ≡ peerNeedsCreditUpdate (i .0) (i .1) (i .2) (i .3))
-  pub smaller : Pinned (ℕ × ℕ) ℕ (λ i r. r ≡ min (i .0) (i .1))
-  pub copy : Pinned (List ℕ × List ℕ) (List ℕ) (λ i left. left ≡ copied (i .0) (i .1))
-  pub vsock-copy : Pinned (List ℕ × List ℕ) (List ℕ) (λ i left. left ≡ copied (i .0) (i .1))

@@ -5,3 +5,4 @@ pub mod SortLaws
 pub mod BuildLaws
 pub mod SoundLaws
 pub mod Promises
+pub mod Pinned

@@ -1,8 +1,7 @@
 -- The promises of specs/Promises, each by its law. Assumes nothing.
-use Rattle.defs.proofs.Pins.{by-equation}
 use Rattle.queue.proofs.QueueLaws as queues
 use Rattle.muxer_killq.specs.Queue.{killq}
-use Rattle.muxer_killq.specs.Promises.{QueueIsItsList, SoundStaysSound, PushAnswers, EverySortIsStable, EdgesHold, EachCallPinned}
+use Rattle.muxer_killq.specs.Promises.{QueueIsItsList, SoundStaysSound, PushAnswers, EverySortIsStable, EdgesHold}
 use Rattle.muxer_killq.proofs.Edges as edges
 use Rattle.muxer_killq.proofs.QueueLaws.{lawful}
 use Rattle.muxer_killq.proofs.PushLaws as pushes
@@ -23,16 +22,3 @@ push-answers = pushes.push-answers
 
 pub edges-hold : EdgesHold
 edges-hold = edges.edges-hold
-
-pub each-call-pinned : EachCallPinned
-each-call-pinned = record {
-  new = by-equation _ _ _;
-  from-conn-map = by-equation _ _ _;
-  push = by-equation _ _ _;
-  peek = by-equation _ _ _;
-  pop = by-equation _ _ _;
-  eq = by-equation _ _ _;
-  is-synced = by-equation _ _ _;
-  is-empty = by-equation _ _ _;
-  is-full = by-equation _ _ _;
-}

@@ -6,19 +6,15 @@ use mathlib.Core.List.{List, [], _∷_}
 use lib.Dec.{eqb}
 use lib.ListN.{length}
 use Rattle.defs.specs.Answer.{told}
-use Rattle.defs.specs.Pinned.{Pinned}
 use Rattle.defs.specs.Promises.{AnswersInTurn}
 use Rattle.defs.specs.Reading.{Hold}
-use Rattle.defs.specs.Look.{FlagLeft}
 use Rattle.defs.specs.declared.answer.Answer.the-variants.{Done}
 use Rattle.conn_map.specs.Table.{chosen}
-use Rattle.queue.specs.Look.{PeekLeft, SyncedSays, EmptySays, FullSays}
 use Rattle.queue.specs.Queued.{QueuedLeft, pushRows}
 use Rattle.queue.specs.Promises as queues
-use Rattle.muxer_killq.specs.Item.{isAlike}
 use Rattle.muxer_killq.specs.Queue.{killq, soundQ, items, NewSays}
 use Rattle.muxer_killq.specs.Push.{PushIn, PushSays, turnsDown}
-use Rattle.muxer_killq.specs.Pop.{PeekSays, PopIn, PopLeft, PopSays}
+use Rattle.muxer_killq.specs.Pop.{PopIn, PopLeft, PopSays}
 use Rattle.muxer_killq.specs.Sort.{sortByTime}
 use Rattle.muxer_killq.specs.Build.{BuildIn, BuildSays}
 use Rattle.muxer_killq.specs.Edges.{readingI, ties}
@@ -67,15 +63,3 @@ EverySortIsStable = (l : List MuxerKillQItem) → SortIsStable l
 pub record EdgesHold : Type 0 where
   pub i : Hold readingI
   pub ties : Hold ties
-
--- every public call: any two outcomes that meet its contract are identical
-pub record EachCallPinned : Type 0 where
-  pub new : Pinned ℕ (QueuedLeft MuxerKillQ) NewSays
-  pub from-conn-map : Pinned BuildIn (QueuedLeft MuxerKillQ) BuildSays
-  pub push : Pinned PushIn (QueuedLeft MuxerKillQ) PushSays
-  pub peek : Pinned MuxerKillQ (PeekLeft MuxerKillQItem) PeekSays
-  pub pop : Pinned PopIn PopLeft PopSays
-  pub eq : Pinned (MuxerKillQItem × MuxerKillQItem) Bool (λ i r. r ≡ isAlike (i .0) (i .1))
-  pub is-synced : Pinned MuxerKillQ FlagLeft (SyncedSays killq)
-  pub is-empty : Pinned MuxerKillQ FlagLeft (EmptySays killq)
-  pub is-full : Pinned MuxerKillQ FlagLeft (FullSays killq)

@@ -4,3 +4,4 @@ pub mod PushLaws
 pub mod BuildLaws
 pub mod SoundLaws
 pub mod Promises
+pub mod Pinned

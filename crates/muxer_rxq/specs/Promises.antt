@@ -3,20 +3,16 @@ use Prim.Native.Nat.{ℕ}
 use mathlib.Core.Path.{_≡_}
 use mathlib.Core.Bool.{true}
 use Rattle.defs.specs.Answer.{told}
-use Rattle.defs.specs.Pinned.{Pinned}
 use Rattle.defs.specs.Promises.{AnswersInTurn}
 use Rattle.defs.specs.Reading.{Hold}
-use Rattle.defs.specs.Look.{FlagLeft, LenLeft}
 use Rattle.defs.specs.declared.answer.Answer.the-variants.{Done}
-use Rattle.queue.specs.Look.{PeekLeft, SyncedSays, EmptySays, FullSays, LengthSays}
 use Rattle.queue.specs.Queued.{QueuedLeft, pushRows}
 use Rattle.queue.specs.Promises as queues
 use Rattle.muxer_rxq.specs.Queue.{rxq, soundQ, items, NewSays}
 use Rattle.muxer_rxq.specs.Push.{PushIn, PushSays, turnsDown}
-use Rattle.muxer_rxq.specs.Pop.{PeekSays, PopLeft, PopSays}
+use Rattle.muxer_rxq.specs.Pop.{PopLeft, PopSays}
 use Rattle.muxer_rxq.specs.Build.{BuildIn, BuildSays}
 use Rattle.muxer_rxq.specs.Edges.{readingJ}
-use Rattle.muxer_rxq.specs.declared.rxq.MuxerRx.{MuxerRx}
 use Rattle.muxer_rxq.specs.declared.rxq.MuxerRxQ.{MuxerRxQ}
 
 -- the queue means its list: a list within the limit makes a sound queue that holds it, and a sound queue is the one that its items make
@@ -40,15 +36,3 @@ PushAnswers =
 -- 01's readings at the edges of this crate
 pub record EdgesHold : Type 0 where
   pub j : Hold readingJ
-
--- every public call: any two outcomes that meet its contract are identical
-pub record EachCallPinned : Type 0 where
-  pub new : Pinned ℕ (QueuedLeft MuxerRxQ) NewSays
-  pub from-conn-map : Pinned BuildIn (QueuedLeft MuxerRxQ) BuildSays
-  pub push : Pinned PushIn (QueuedLeft MuxerRxQ) PushSays
-  pub peek : Pinned MuxerRxQ (PeekLeft MuxerRx) PeekSays
-  pub pop : Pinned MuxerRxQ PopLeft PopSays
-  pub is-synced : Pinned MuxerRxQ FlagLeft (SyncedSays rxq)
-  pub len : Pinned MuxerRxQ LenLeft (LengthSays rxq)
-  pub is-empty : Pinned MuxerRxQ FlagLeft (EmptySays rxq)
-  pub is-full : Pinned MuxerRxQ FlagLeft (FullSays rxq)

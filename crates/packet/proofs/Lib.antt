@@ -2,3 +2,4 @@ pub mod LeLaws
 pub mod HeaderLaws
 pub mod Callers
 pub mod Promises
+pub mod Pinned

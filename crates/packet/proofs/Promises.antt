@@ -2,10 +2,9 @@
 use mathlib.Core.Path.{refl}
 use Rattle.defs.specs.Choice.{when}
 use Rattle.defs.specs.Limits.{isHeaderLength}
-use Rattle.defs.proofs.Pins.{by-equation}
 use Rattle.packet.specs.Header.{encoded, decoded, decodeOf, encodeOf}
 use Rattle.packet.specs.Edges.{readingA, wrongLengths}
-use Rattle.packet.specs.Promises.{FieldsStandAt, DecodeAfterEncode, EncodeAfterDecode, ToldTellsApart, EdgesHold, EachCallPinned}
+use Rattle.packet.specs.Promises.{FieldsStandAt, DecodeAfterEncode, EncodeAfterDecode, ToldTellsApart, EdgesHold}
 use Rattle.packet.proofs.HeaderLaws as header
 use Rattle.packet.proofs.Callers as callers
 
@@ -24,6 +23,3 @@ told-tells-apart = callers.told-tells-apart
 pub edges-hold : EdgesHold
 unfolding readingA wrongLengths encodeOf decodeOf encoded decoded isHeaderLength when
 edges-hold = record { a = (refl, (refl, tt)); lengths = (refl, (refl, tt)) }
-
-pub each-call-pinned : EachCallPinned
-each-call-pinned = record { decode = by-equation _ _ _; encode = by-equation _ _ _; set-flag = by-equation _ _ _ }

@@ -5,11 +5,10 @@ use mathlib.Core.List.{List, [], _∷_}
 use lib.ListN.{length, getD}
 use Rattle.defs.specs.Answer.{told}
 use Rattle.defs.specs.Limits.{headerSize}
-use Rattle.defs.specs.Pinned.{Pinned}
 use Rattle.defs.specs.Reading.{Hold}
 use Rattle.defs.specs.declared.answer.Answer.the-variants.{Done}
 use Rattle.packet.specs.Le.{offsets}
-use Rattle.packet.specs.Header.{layout, fields, flagged, toldDecoded, DecodeLeft, decodeOf, DecodeSays, EncodeIn, EncodeLeft, encodeOf, EncodeSays}
+use Rattle.packet.specs.Header.{layout, fields, toldDecoded, decodeOf, encodeOf}
 use Rattle.packet.specs.Edges.{readingA, wrongLengths}
 use Rattle.packet.specs.declared.hdr.VsockPacketHdr.{VsockPacketHdr}
 use Rattle.packet.specs.declared.hdr.Decoded.{Decoded}
@@ -49,9 +48,3 @@ ToldTellsApart = (a b : Decoded) → toldDecoded a ≡ toldDecoded b → a ≡ b
 pub record EdgesHold : Type 0 where
   pub a : Hold readingA
   pub lengths : Hold wrongLengths
-
--- every public call: any two outcomes that meet its contract are identical
-pub record EachCallPinned : Type 0 where
-  pub decode : Pinned (List ℕ) DecodeLeft DecodeSays
-  pub encode : Pinned EncodeIn EncodeLeft EncodeSays
-  pub set-flag : Pinned (VsockPacketHdr × ℕ) VsockPacketHdr (λ i r. r ≡ flagged (i .0) (i .1))

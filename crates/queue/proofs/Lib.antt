@@ -6,3 +6,4 @@ pub mod LookLaws
 pub mod PopLaws
 pub mod WalkLaws
 pub mod Promises
+pub mod Pinned

@@ -1,6 +1,5 @@
 -- The promises of specs/Promises, each by its law. Assumes nothing.
-use Rattle.defs.proofs.Pins.{by-equation}
-use Rattle.queue.specs.Promises.{EveryQueueIsItsList, SoundStaysSound, EdgesHold, EachCallPinned}
+use Rattle.queue.specs.Promises.{EveryQueueIsItsList, SoundStaysSound, EdgesHold}
 use Rattle.queue.proofs.Edges as edges
 use Rattle.queue.proofs.QueueLaws as queues
 
@@ -12,6 +11,3 @@ sound-stays-sound Q A k w = queues.sound-stays-sound k w
 
 pub edges-hold : EdgesHold
 edges-hold = edges.edges-hold
-
-pub each-call-pinned : EachCallPinned
-each-call-pinned = record { has-room = by-equation _ _ _ }

@@ -4,10 +4,8 @@ use mathlib.Core.Path.{_≡_}
 use mathlib.Core.Bool.{Bool, true}
 use mathlib.Core.List.{List}
 use lib.ListN.{length}
-use Rattle.defs.specs.Pinned.{Pinned}
 use Rattle.defs.specs.Reading.{Hold}
 use Rattle.queue.specs.Queue.{Kind, Lawful, soundQ, items, pack, holding}
-use Rattle.queue.specs.Queued.{hasRoom}
 use Rattle.queue.specs.Edges.{sounds, packs, pops, rooms}
 
 -- the queue means its list: a list within the limit makes a sound queue that holds it, and a sound queue is the one that its items make
@@ -32,12 +30,3 @@ pub record EdgesHold : Type 0 where
   pub packs : Hold packs
   pub pops : Hold pops
   pub rooms : Hold rooms
-
-pub record RoomIn : Type 0 where
-  pub synced : Bool
-  pub len : ℕ
-  pub limit : ℕ
-
--- every public call: any two outcomes that meet its contract are identical
-pub record EachCallPinned : Type 0 where
-  pub has-room : Pinned RoomIn Bool (λ i r. r ≡ hasRoom (i .synced) (i .len) (i .limit))

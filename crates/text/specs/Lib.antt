@@ -1,2 +1,2 @@
 pub mod Hex
-pub mod Promises
+pub mod Part

@@ -1,13 +1,11 @@
 // Parts of buffers by a number that may be larger than they are.
 ghost use mathlib.Core.Path.{_≡_};
-ghost use Prim.Native.Nat.{min};
-ghost use lib.ListN.{length, take};
-ghost use Rattle.io.specs.Counts.{Counts};
+ghost use lib.ListN.{take};
+ghost use Rattle.text.specs.Part.{FittingSays};
 
-// So many of the room's bytes, or all that it has. The first clause is what `&mut room[..n]` asks.
+// So many of the room's bytes, or all that it has.
 pub fn fitting(bytes: usize, room: &[u8]) -> usize
-    ensures { λ r. ⌜ Counts r (now (room .entry)) ⌝ }
-    ensures { λ r. ⌜ r ≡ min bytes (length (now (room .entry))) ⌝ }
+    ensures { λ r. ⌜ FittingSays bytes (now (room .entry)) r ⌝ }
 {
     defs::smaller(bytes, room.len())
 }

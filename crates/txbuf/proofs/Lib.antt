@@ -4,3 +4,4 @@ pub mod PushLaws
 pub mod FlushLaws
 pub mod AnswerLaws
 pub mod Promises
+pub mod Pinned

@@ -5,12 +5,11 @@ use Rattle.defs.specs.Answer.{isDone, whenDone}
 use Rattle.defs.specs.Limits.{isRingSize, isPacketLength}
 use Rattle.defs.specs.Ladder.{doorOf, lateOf, lowestOf, recordAnswer}
 use Rattle.defs.specs.Copying.{copied}
-use Rattle.defs.proofs.Pins.{by-equation}
 use Rattle.txbuf.specs.Record.{soundRecord, soundOf, heldFrom, held}
 use Rattle.txbuf.specs.Push.{runs, pushAnswer, pushDone, pushKept, pushOf}
 use Rattle.txbuf.specs.Flush.{firstPiece, takenBy, overBy, endsBy, flushCount, flushOver, flushAnswer, flushDone, flushKept, flushOf}
 use Rattle.txbuf.specs.Edges.{readingBCD, readingF}
-use Rattle.txbuf.specs.Promises.{TwoRunsAreOneWrite, HeldIsCounted, PushAppends, FirstPieceIsOldest, PiecesAreHeld, FlushTakesOldest, FlushProgresses, EdgesHold, EachCallPinned}
+use Rattle.txbuf.specs.Promises.{TwoRunsAreOneWrite, HeldIsCounted, PushAppends, FirstPieceIsOldest, PiecesAreHeld, FlushTakesOldest, FlushProgresses, EdgesHold}
 use Rattle.txbuf.specs.Answers.{PushAnswers, FlushAnswers}
 use Rattle.txbuf.proofs.AnswerLaws as answers
 use Rattle.txbuf.proofs.RecordLaws as records
@@ -48,18 +47,3 @@ flush-answers = answers.flush-answers
 pub edges-hold : EdgesHold
 unfolding when isDone whenDone isRingSize isPacketLength doorOf lateOf lowestOf copied soundRecord soundOf recordAnswer heldFrom held runs pushAnswer pushDone pushKept pushOf firstPiece takenBy overBy endsBy flushCount flushOver flushAnswer flushDone flushKept flushOf readingBCD readingF
 edges-hold = record { bcd = (refl, (refl, (refl, tt))); f = (refl, (refl, (refl, tt))) }
-
-pub each-call-pinned : EachCallPinned
-each-call-pinned = record {
-  new = by-equation _ _ _;
-  used = by-equation _ _ _;
-  is-sound = by-equation _ _ _;
-  is-sound-over = by-equation _ _ _;
-  len = by-equation _ _ _;
-  is-empty = by-equation _ _ _;
-  push = by-equation _ _ _;
-  vsock-ring-push = by-equation _ _ _;
-  first-piece = by-equation _ _ _;
-  second-piece = by-equation _ _ _;
-  flush-to = by-equation _ _ _;
-}

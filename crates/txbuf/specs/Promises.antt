@@ -1,17 +1,15 @@
 -- What this crate promises besides specs/Answers, in statements only; proofs/Promises has a line for each. Assumes nothing.
 use Prim.Native.Nat.{ℕ, suc, _%_, _<_, _≤_}
 use mathlib.Core.Path.{_≡_}
-use mathlib.Core.Bool.{Bool, true}
+use mathlib.Core.Bool.{true}
 use mathlib.Core.List.{List, _++_}
 use lib.ListN.{length, take, drop}
 use Rattle.defs.specs.Answer.{told}
-use Rattle.defs.specs.Look.{FlagLeft, FlagSays, LenLeft, LenSays}
-use Rattle.defs.specs.Pinned.{Pinned}
 use Rattle.defs.specs.Reading.{Hold}
 use Rattle.defs.specs.declared.answer.Answer.the-variants.{Done}
 use Rattle.defs.specs.declared.stream.StreamAnswer.the-variants.{Count}
-use Rattle.txbuf.specs.Record.{Wide, usedOf, soundRecord, soundOf, held, isEmpty, lookAnswer, NewLeft, NewSays}
-use Rattle.txbuf.specs.Push.{runs, written, PushIn, PushLeft, PushSays, NumberedLeft, NumberedSays}
+use Rattle.txbuf.specs.Record.{Wide, usedOf, soundOf, held}
+use Rattle.txbuf.specs.Push.{runs, written, PushIn, PushLeft, PushSays}
 use Rattle.txbuf.specs.Flush.{pieceLen, firstPiece, secondPiece, FlushIn, FlushLeft, FlushSays}
 use Rattle.txbuf.specs.Edges.{readingBCD, readingF}
 use Rattle.txbuf.specs.declared.record.TxBuf.{TxBuf}
@@ -59,17 +57,3 @@ FlushProgresses =
 pub record EdgesHold : Type 0 where
   pub bcd : Hold readingBCD
   pub f : Hold readingF
-
--- every public call: any two outcomes that meet its contract are identical
-pub record EachCallPinned : Type 0 where
-  pub new : Pinned ℕ NewLeft NewSays
-  pub used : Pinned TxBuf ℕ (λ b r. r ≡ usedOf b)
-  pub is-sound : Pinned TxBuf Bool (λ b r. r ≡ soundRecord b)
-  pub is-sound-over : Pinned (TxBuf × ℕ) Bool (λ i r. r ≡ soundOf (i .0) (i .1))
-  pub len : Pinned TxBuf LenLeft (λ b left. LenSays (lookAnswer b) (usedOf b) left)
-  pub is-empty : Pinned TxBuf FlagLeft (λ b left. FlagSays (lookAnswer b) (isEmpty b) left)
-  pub push : Pinned PushIn PushLeft PushSays
-  pub vsock-ring-push : Pinned PushIn NumberedLeft NumberedSays
-  pub first-piece : Pinned (TxBuf × List ℕ) (List ℕ) (λ i r. r ≡ firstPiece (i .0) (i .1))
-  pub second-piece : Pinned (TxBuf × List ℕ) (List ℕ) (λ i r. r ≡ secondPiece (i .0) (i .1))
-  pub flush-to : Pinned FlushIn FlushLeft FlushSays

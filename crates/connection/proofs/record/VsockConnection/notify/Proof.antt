@@ -3,6 +3,7 @@ use borrow.Author.Needs.{needs}
 use denote.Ref.{now}
 use mathlib.Core.Path.{refl, sym, _∙_}
 use Rattle.defs.specs.Answer.{told}
+use Rattle.defs.proofs.AnswerLaws.{told-tells-apart}
 use Rattle.txbuf.specs.Flush.{FlushLeft}
 use Rattle.connection.specs.Notify.{NotifyIn}
 use Rattle.connection.proofs.NotifyLaws.{Flushing, flushing, flush-within, notify-refused, notify-seen, notify-kept, notify-done}
@@ -29,10 +30,10 @@ answered f =
     let y = f .before .before .before in
     let t = y .before .before .before in
     let q = t .before in
-    flushing (given (at f)) _ _ (y .flush-to .result .answer) _ (at f .notify-door .ensures) (q .before .before .enum-told .given .1) (sym (q .is-flush-due .ensures) ∙ t .if1 .taken) (y .flush-to .ensures) refl (f .absorb .ensures)
+    flushing (given (at f)) _ _ (y .flush-to .result .answer) _ (told-tells-apart _ _ (at f .notify-door .ensures)) (q .before .before .enum-told .given .1) (sym (q .is-flush-due .ensures) ∙ t .if1 .taken) (y .flush-to .ensures) refl (f .absorb .ensures)
 
 returns : tie.Need-returns
-returns c = notify-refused _ _ (c .before .notify-door .ensures) (c .match .keys2)
+returns c = notify-refused _ (c .before .notify-door .result) (told-tells-apart _ _ (c .before .notify-door .ensures)) (c .match .keys2)
 
 returns-2 : tie.Need-returns-2
 returns-2 c = notify-kept (given (at (c .before))) _ _ (flushLeft (c .before)) (answered (c .before)) (c .match2 .keys2)
@@ -51,7 +52,7 @@ returns-4 : tie.Need-returns-4
 returns-4 c =
     let s = c .before .before in
     let d = s .before .before .before in
-    notify-seen (given d) _ _ (d .notify-door .ensures) (s .before .enum-told .given .1) (sym (c .before .is-flush-due .ensures) ∙ c .if1 .left) (s .see .ensures)
+    notify-seen (given d) _ _ (told-tells-apart _ _ (d .notify-door .ensures)) (s .before .enum-told .given .1) (sym (c .before .is-flush-due .ensures) ∙ c .if1 .left) (s .see .ensures)
 
 pub notify-spec : {M : Type 1} → statement M
 notify-spec = tie.close (tie.spec (search needs) (λ c. search needs) returns (search needs) (search needs) (search needs) (search needs) (λ c. search needs) (λ c. search needs) returns-2 (search needs) (search needs) drained-requires (λ c. search needs) returns-3 returns-4)

@@ -5,7 +5,7 @@ use native.Mathlib.Omega.{arith}
 use lib.ListN.{length-take}
 use denote.Ref.{now}
 use Rattle.defs.specs.Stream.{counted}
-use Rattle.defs.proofs.AnswerLaws.{not-done}
+use Rattle.defs.proofs.AnswerLaws.{not-done, told-tells-apart}
 use Rattle.connection.specs.Raw.{RawIn, rawAnswer}
 use Rattle.connection.proofs.RawLaws.{raw-counted, raw-stopped, stop-refuses, raw-kept, raw-left, raw-fits}
 use Rattle.connection.proofs.record.VsockConnection.send_bytes_raw.Statement.{statement}
@@ -24,14 +24,14 @@ at l = l .before .before .before .before .before
 decided : (l : tie.After-lowest2) → l .lowest2 .result ≡ rawAnswer (given (at l))
 decided l =
     let t = l .before in
-    raw-counted (given (at l)) _ _ _ _ (t .before .before .first .given .1) (l .lowest2 .ensures) (t .late .ensures) (at l .raw-door .ensures)
+    raw-counted (given (at l)) _ _ _ _ (t .before .before .first .given .1) (l .lowest2 .ensures) (t .late .ensures) (told-tells-apart _ _ (at l .raw-door .ensures))
 
 returns : tie.Need-returns
 returns c =
     let s = c .before in
     let k = s .before .match .keys2 in
     let d = s .before .before in
-    raw-kept (given d) _ (raw-stopped (given d) _ _ _ k (c .lowest .ensures) (s .stopped-by .ensures) (d .raw-door .ensures))
+    raw-kept (given d) _ (raw-stopped (given d) _ _ _ k (c .lowest .ensures) (s .stopped-by .ensures) (told-tells-apart _ _ (d .raw-door .ensures)))
     (stop-refuses _ _ _ (given d .answers .first) k (c .lowest .ensures) (s .stopped-by .ensures))
 
 returns-2 : tie.Need-returns-2

@@ -1,0 +1,14 @@
+-- Every public call is pinned by its own contract, which only proofs/ can name (`Learnt`: what a caller learns of it). Assumes nothing.
+use mathlib.Core.Bool.{Bool}
+use Rattle.defs.specs.Pinned.{Pinned}
+use Rattle.defs.proofs.Pins.{by-equation}
+use Rattle.queue.proofs.has_room.Reads as has-room
+
+-- any two outcomes that meet the contract of a call are identical: its answer (`told`), what it gives back, and what it leaves behind each `&mut`
+pub record EachCallPinned : Type 0 where
+  pub has-room : Pinned has-room.Learnt Bool (λ l r e. r)
+
+pub each-call-pinned : EachCallPinned
+each-call-pinned = record {
+  has-room = by-equation _ _ _;
+}

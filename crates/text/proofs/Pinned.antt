@@ -1,0 +1,23 @@
+-- Every public call is pinned by its own contract, which only proofs/ can name (`Learnt`: what a caller learns of it). Assumes nothing.
+use Prim.Native.Nat.{ℕ}
+use mathlib.Core.Path.{sym, _∙_}
+use mathlib.Core.List.{List}
+use denote.Ref.{now}
+use Rattle.defs.specs.Pinned.{Pinned}
+use Rattle.defs.proofs.Pins.{by-equation}
+use Rattle.text.proofs.hex.Reads as hex
+use Rattle.text.proofs.part.fitting.Reads as fitting
+use Rattle.text.proofs.part.front.Reads as front
+
+-- any two outcomes that meet the contract of a call are identical: its answer (`told`), what it gives back, and what it leaves behind each `&mut`
+pub record EachCallPinned : Type 0 where
+  pub hex : Pinned hex.Learnt (List ℕ) (λ l r e. now (e .1 .0))
+  pub fitting : Pinned fitting.Learnt ℕ (λ l r e. r)
+  pub front : Pinned front.Learnt (List ℕ) (λ l r e. now r)
+
+pub each-call-pinned : EachCallPinned
+each-call-pinned = record {
+  hex = by-equation _ _ _;
+  fitting = λ l i r s d e p q. p .1 ∙ sym (q .1);
+  front = by-equation _ _ _;
+}
