@@ -6,7 +6,7 @@ use Rattle.defs.proofs.Pins.{by-equation}
 use Rattle.conn_map.proofs.key.key_of.Reads as key-of
 use Rattle.conn_map.proofs.table.is_sound.Reads as is-sound
 
--- any two outcomes that meet the contract of a call are identical: its answer (`told`), what it gives back, and what it leaves behind each `&mut`
+-- any two outcomes that meet a call's contract are identical: what it gives back
 pub record EachCallPinned : Type 0 where
   pub key-of : Pinned key-of.Learnt ConnMapKey (λ l r e. r)
   pub is-sound : Pinned is-sound.Learnt Bool (λ l r e. r)

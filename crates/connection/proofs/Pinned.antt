@@ -38,7 +38,7 @@ use Rattle.connection.proofs.record.VsockConnection.notify_offered_next
 use Rattle.connection.proofs.record.VsockConnection.raw_door.Reads as raw-door
 use Rattle.connection.proofs.record.VsockConnection.raw_offered.Reads as raw-offered
 
--- any two outcomes that meet the contract of a call are identical: its answer (`told`), what it gives back, and what it leaves behind each `&mut`
+-- any two outcomes that meet a call's contract are identical: what it gives back, its answer by `told`, and what it leaves behind each `&mut`; the first parameter's end is `e .0`, the second's `e .1 .0`
 pub record EachCallPinned : Type 0 where
   pub new-peer-init : Pinned new-peer-init.Learnt ConnLeft (λ l r e. record { answer = told (r .answer); conn = r .conn })
   pub new-local-init : Pinned new-local-init.Learnt ConnLeft (λ l r e. record { answer = told (r .answer); conn = r .conn })

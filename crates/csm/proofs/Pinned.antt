@@ -28,7 +28,7 @@ use Rattle.csm.proofs.timer.is_due.Reads as is-due
 use Rattle.csm.proofs.turn.turn_reads.Reads as turn-reads
 use Rattle.csm.proofs.turn.turn_step.Reads as turn-step
 
--- any two outcomes that meet the contract of a call are identical: its answer (`told`), what it gives back, and what it leaves behind each `&mut`
+-- any two outcomes that meet a call's contract are identical: what it gives back
 pub record EachCallPinned : Type 0 where
   pub is-pending : Pinned is-pending.Learnt Bool (λ l r e. r)
   pub mark : Pinned mark.Learnt PendingRxSet (λ l r e. r)

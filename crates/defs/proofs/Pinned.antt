@@ -35,7 +35,7 @@ use Rattle.defs.proofs.copying.smaller.Reads as smaller
 use Rattle.defs.proofs.copying.copy.Reads as copy
 use Rattle.defs.proofs.copying.vsock_copy.Reads as vsock-copy
 
--- any two outcomes that meet the contract of a call are identical: its answer (`told`), what it gives back, and what it leaves behind each `&mut`
+-- any two outcomes that meet a call's contract are identical: what it gives back, its answer by `told`, and what it leaves behind each `&mut`; the first parameter's end is `e .0`, the second's `e .1 .0`
 pub record EachCallPinned : Type 0 where
   pub number-of : Pinned number-of.Learnt ℕ (λ l r e. r)
   pub has-failed : Pinned has-failed.Learnt Bool (λ l r e. r)

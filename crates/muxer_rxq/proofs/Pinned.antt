@@ -18,7 +18,7 @@ use Rattle.muxer_rxq.proofs.rxq.MuxerRxQ.len.Reads as len
 use Rattle.muxer_rxq.proofs.rxq.MuxerRxQ.is_empty.Reads as is-empty
 use Rattle.muxer_rxq.proofs.rxq.MuxerRxQ.is_full.Reads as is-full
 
--- any two outcomes that meet the contract of a call are identical: its answer (`told`), what it gives back, and what it leaves behind each `&mut`
+-- any two outcomes that meet a call's contract are identical: what it gives back, its answer by `told`
 pub record EachCallPinned : Type 0 where
   pub new : Pinned new.Learnt (QueuedLeft MuxerRxQ) (λ l r e. record { answer = told (r .answer); queue = r .queue })
   pub from-conn-map : Pinned from-conn-map.Learnt (QueuedLeft MuxerRxQ) (λ l r e. record { answer = told (r .answer); queue = r .queue })

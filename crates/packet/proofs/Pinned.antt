@@ -9,7 +9,7 @@ use Rattle.packet.proofs.hdr.decode.Reads as decode
 use Rattle.packet.proofs.hdr.encode.Reads as encode
 use Rattle.packet.proofs.hdr.VsockPacketHdr.set_flag.Reads as set-flag
 
--- any two outcomes that meet the contract of a call are identical: its answer (`told`), what it gives back, and what it leaves behind each `&mut`
+-- any two outcomes that meet a call's contract are identical: what it gives back, its answer by `told`, and what it leaves behind each `&mut`; the first parameter's end is `e .0`, the second's `e .1 .0`
 pub record EachCallPinned : Type 0 where
   pub decode : Pinned decode.Learnt DecodeLeft (λ l r e. toldDecoded r)
   pub encode : Pinned encode.Learnt EncodeLeft (λ l r e. record { answer = told r; out = now (e .1 .0) })

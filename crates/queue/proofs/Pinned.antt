@@ -4,7 +4,7 @@ use Rattle.defs.specs.Pinned.{Pinned}
 use Rattle.defs.proofs.Pins.{by-equation}
 use Rattle.queue.proofs.has_room.Reads as has-room
 
--- any two outcomes that meet the contract of a call are identical: its answer (`told`), what it gives back, and what it leaves behind each `&mut`
+-- any two outcomes that meet a call's contract are identical: what it gives back
 pub record EachCallPinned : Type 0 where
   pub has-room : Pinned has-room.Learnt Bool (λ l r e. r)
 

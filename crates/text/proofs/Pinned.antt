@@ -9,7 +9,8 @@ use Rattle.text.proofs.hex.Reads as hex
 use Rattle.text.proofs.part.fitting.Reads as fitting
 use Rattle.text.proofs.part.front.Reads as front
 
--- any two outcomes that meet the contract of a call are identical: its answer (`told`), what it gives back, and what it leaves behind each `&mut`
+-- any two outcomes that meet a call's contract are identical: what it gives back, and what it leaves behind each `&mut`; the first parameter's end is `e .0`, the second's `e .1 .0`
+-- (those that print give nothing back, and no contract can say what is written)
 pub record EachCallPinned : Type 0 where
   pub hex : Pinned hex.Learnt (List ℕ) (λ l r e. now (e .1 .0))
   pub fitting : Pinned fitting.Learnt ℕ (λ l r e. r)

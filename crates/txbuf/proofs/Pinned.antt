@@ -22,7 +22,7 @@ use Rattle.txbuf.proofs.record.TxBuf.first_piece.Reads as first-piece
 use Rattle.txbuf.proofs.record.TxBuf.second_piece.Reads as second-piece
 use Rattle.txbuf.proofs.record.TxBuf.flush_to.Reads as flush-to
 
--- any two outcomes that meet the contract of a call are identical: its answer (`told`), what it gives back, and what it leaves behind each `&mut`
+-- any two outcomes that meet a call's contract are identical: what it gives back, its answer by `told`, and what it leaves behind each `&mut`; the first parameter's end is `e .0`, the second's `e .1 .0`
 pub record EachCallPinned : Type 0 where
   pub new : Pinned new.Learnt NewLeft (λ l r e. record { answer = told (r .answer); ring = r .ring })
   pub used : Pinned used.Learnt ℕ (λ l r e. r)
