@@ -6,11 +6,9 @@ use mathlib.Core.List.{List, [], _∷_, map}
 use mathlib.Core.Logic.{⊎-elim}
 use lib.ListN.{length, getD}
 use lib.Dec.{eqb, leb, ltb}
-use borrow.Author.Tests.{eqb-true, eqb-false, eq-eqb, ne-eqb, leb-true, leb-false, le-leb, lt-leb, ltb-true, ltb-false}
+use borrow.Author.Tests.{eqb-true, eqb-false, eq-eqb, ne-eqb, leb-true, ltb-true, ltb-false}
 use native.Mathlib.Omega.{arith}
 use native.Mathlib.Numerals.{add-one}
-use native.Mathlib.Nat.{mod-lt}
-use Rattle.defs.specs.Choice.{when}
 use Rattle.defs.specs.Limits.{minSlots, maxSlots, isSlotCount}
 use Rattle.defs.specs.Promises.{Exactly}
 use Rattle.defs.proofs.Basics.{both, never, true-or-false, or-left}

@@ -18,7 +18,7 @@ const MARKS: usize = 8117;
 // A mark that was left more than once.
 const AGAIN: u8 = 2;
 
-pub fn are_distinct<'a>(ports: &'a [u64], used: &'a [u8]) -> bool
+pub(crate) fn are_distinct<'a>(ports: &'a [u64], used: &'a [u8]) -> bool
     requires { ⌜ (length (now ports) ≤ maxSlots) × (length (now used) ≡ length (now ports)) ⌝ }
     ensures { λ r. ⌜ r ≡ distinct (now (ports .entry)) (now (used .entry)) ⌝ }
 {
