@@ -12,7 +12,7 @@ use lib.ListN.{length, getD, take, set, length-set}
 use lib.Seq.{getD-set-same, getD-set-other, take-suc-set, append-snoc}
 use Rattle.defs.specs.Choice.{when}
 use Rattle.defs.proofs.Basics.{never, neither}
-use Rattle.defs.proofs.ChoiceLaws.{when-true, when-false}
+use Rattle.defs.proofs.ChoiceLaws.{when-true, when-false, when-holds}
 use Rattle.conn_map.specs.Table.{usedAt, anyBelow, hit, distinct, chosen}
 use Rattle.conn_map.specs.Distinct.{keysTo, has, twice, markCount, markOf, nextMark, marked, repeats, again}
 
@@ -106,12 +106,8 @@ module _ (marks : List ℕ) (long : length marks ≡ markCount) where
 
   -- a mark that is left stays left, and one that is left again stays so
   next-left : (m : ℕ) → nextMark m ≡ 0 → ⊥
-  unfolding nextMark when
-  next-left m = by (eqb m 0)
-    where
-      by : (b : Bool) → _≡_ {A = ℕ} (when b 1 2) 0 → ⊥
-      by true e = omega arith
-      by false e = omega arith
+  unfolding nextMark
+  next-left m = when-holds (λ (r : ℕ). r ≡ 0 → ⊥) (eqb m 0) _ _ (λ e z. omega arith) (λ e z. omega arith)
 
   next-again : (m : ℕ) → (m ≡ 0 → ⊥) → nextMark m ≡ 2
   unfolding nextMark

@@ -9,8 +9,6 @@ use Rattle.conn_map.specs.Distinct.{keysTo, twice, again}
 use Rattle.conn_map.proofs.DistinctLaws.{doubtful-decide, none-doubtful}
 use Rattle.conn_map.proofs.distinct.are_distinct.Statement.{statement}
 use Rattle.conn_map.proofs.distinct.are_distinct.Tie as tie
-use Rattle.conn_map.proofs.distinct.are_distinct.Reads as reads
-use Rattle.conn_map.proofs.distinct.are_distinct.Lts as lts
 
 returns : tie.Need-returns
 returns c =

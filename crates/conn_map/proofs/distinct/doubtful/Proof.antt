@@ -9,9 +9,6 @@ use Rattle.conn_map.specs.Distinct.{keysTo, again}
 use Rattle.conn_map.proofs.DistinctLaws.{takes-one, leaves-one, skips-one, all-gathered}
 use Rattle.conn_map.proofs.distinct.doubtful.Statement.{statement}
 use Rattle.conn_map.proofs.distinct.doubtful.Tie as tie
-use Rattle.conn_map.proofs.distinct.doubtful.Lts as lts
-use Rattle.conn_map.proofs.distinct.doubtful.Reads as reads
-use Rattle.conn_map.proofs.distinct.mark_of.Reads as mark-of-reads
 
 -- what is taken, and what the slots below i will give, are all of it
 abbrev Inv-loop : tie.InvT-loop
@@ -54,9 +51,8 @@ loop-less c = omega arith
 loop-again : tie.Need-loop-again Inv-loop μ-loop
 loop-again c =
     let of = c .before .before .mark-of in
-    let in-loop = c .before .before .before .before .before .before in
-    let l = in-loop .before .loop in
-    (omega arith, length-set (l .keys) _ _ ∙ l .inv .1, takes-one _ _ _ (l .i) (in-loop .loop-test .taken) (l .keys) (l .n) _ (l .inv .2) (c .before .before .before .if1 .taken) (of .result) (of .ensures .0) (omega arith) (c .if2 .taken))
+    let l = c .before .before .before .before .before .before .before .loop in
+    (omega arith, length-set (l .keys) _ _ ∙ l .inv .1, takes-one _ _ _ (l .i) (omega arith) (l .keys) (l .n) _ (l .inv .2) (c .before .before .before .if1 .taken) (of .result) (of .ensures .0) (omega arith) (c .if2 .taken))
 
 loop-less-2 : tie.Need-loop-less-2 Inv-loop μ-loop
 loop-less-2 c = omega arith
@@ -64,18 +60,16 @@ loop-less-2 c = omega arith
 loop-again-2 : tie.Need-loop-again-2 Inv-loop μ-loop
 loop-again-2 c =
     let of = c .before .before .mark-of in
-    let in-loop = c .before .before .before .before .before .before in
-    let l = in-loop .before .loop in
-    (omega arith, l .inv .1, leaves-one _ _ _ (l .i) (in-loop .loop-test .taken) (l .keys) (l .n) _ (l .inv .2) (c .before .before .before .if1 .taken) (of .result) (of .ensures .0) (c .if2 .left))
+    let l = c .before .before .before .before .before .before .before .loop in
+    (omega arith, l .inv .1, leaves-one _ _ _ (l .i) (omega arith) (l .keys) (l .n) _ (l .inv .2) (c .before .before .before .if1 .taken) (of .result) (of .ensures .0) (c .if2 .left))
 
 loop-less-3 : tie.Need-loop-less-3 Inv-loop μ-loop
 loop-less-3 c = omega arith
 
 loop-again-3 : tie.Need-loop-again-3 Inv-loop μ-loop
 loop-again-3 c =
-    let in-loop = c .before .before .before in
-    let l = in-loop .before .loop in
-    (omega arith, l .inv .1, skips-one _ _ _ (l .i) (in-loop .loop-test .taken) (l .keys) (l .n) _ (l .inv .2) (c .if1 .left))
+    let l = c .before .before .before .before .loop in
+    (omega arith, l .inv .1, skips-one _ _ _ (l .i) (omega arith) (l .keys) (l .n) _ (l .inv .2) (c .if1 .left))
 
 same-length : tie.Need-same-length Inv-loop μ-loop
 same-length c = search needs
@@ -83,7 +77,7 @@ same-length c = search needs
 returns : tie.Need-returns Inv-loop μ-loop
 returns c =
     let l = c .before .loop in
-    (omega arith, all-gathered _ _ _ (l .i) (l .keys) (l .n) _ (c .loop-test .left) (l .inv .2))
+    (omega arith, all-gathered _ _ _ (l .i) (l .keys) (l .n) _ (omega arith) (l .inv .2))
 
 pub doubtful-spec : {M : Type 1} → statement M
 doubtful-spec = tie.close (tie.spec Inv-loop μ-loop loop-holds sub-i mul-key shared-slice-read-key shared-slice-read-if1 (λ c κs. search needs) element-copy-out-if2 mul-keys slice-write-keys add-n loop-less loop-again loop-less-2 loop-again-2 loop-less-3 loop-again-3 same-length returns)
