@@ -1,4 +1,4 @@
--- No two used slots with the same ports, as the code tests it: by marks, and by a sort of those whose mark is left again. Assumes nothing.
+-- No two used slots with the same ports, as the code tests it: by marks, and by a sort of those whose mark is left again. No public contract cites this. Assumes nothing.
 use Prim.Native.Nat.{ℕ, suc, zero, _%_}
 use mathlib.Core.Bool.{Bool, false, not, _&&_, _||_}
 use mathlib.Core.List.{List, [], _∷_}

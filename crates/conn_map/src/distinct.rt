@@ -11,8 +11,8 @@ ghost use Rattle.conn_map.specs.Distinct.{keysTo, twice, markCount, mark
 use crate::sort;
 use defs::limits;
 
-// The places for marks: of 512 random ports about 30 share one. A prime, so that both ports tell
-// (MARKS of specs/Distinct.antt).
+// The places for marks, `markCount` of specs/Distinct.antt: of 512 random ports about 30 share
+// theirs. A prime, so that all bits of both ports tell; one local port more is 2,852 places on.
 const MARKS: usize = 8117;
 
 // A mark that was left more than once.
