@@ -4,6 +4,7 @@ use mathlib.Core.Bool.{true, false}
 use mathlib.Core.List.{List, [], _∷_}
 use Rattle.defs.specs.Reading.{Reading, _reads_}
 use Rattle.conn_map.specs.Table.{soundTable}
+use Rattle.conn_map.specs.Distinct.{markCount}
 
 -- three slots, told by the number of their ports
 abbrev three : List ℕ
@@ -31,10 +32,10 @@ farPair =
     ∷ (soundTable eight (1 ∷ 0 ∷ 0 ∷ 0 ∷ 0 ∷ 0 ∷ 0 ∷ 1 ∷ []) 8 reads false)
     ∷ []
 
--- the same peer port with other local ports, and other ports with the same mark (8,117 places): sound
+-- the same peer port with other local ports, and other ports with the same mark: sound
 unfoldable pub sameMark : List Reading
 sameMark =
     (soundTable (5 ∷ (2 ^ 32 + 5) ∷ (2 * 2 ^ 32 + 5) ∷ []) (1 ∷ 1 ∷ 1 ∷ []) 3 reads true)
-    ∷ (soundTable (5 ∷ 8122 ∷ 16239 ∷ []) (1 ∷ 1 ∷ 1 ∷ []) 3 reads true)
-    ∷ (soundTable (5 ∷ 8122 ∷ 5 ∷ []) (1 ∷ 1 ∷ 1 ∷ []) 3 reads false)
+    ∷ (soundTable (5 ∷ (markCount + 5) ∷ (2 * markCount + 5) ∷ []) (1 ∷ 1 ∷ 1 ∷ []) 3 reads true)
+    ∷ (soundTable (5 ∷ (markCount + 5) ∷ 5 ∷ []) (1 ∷ 1 ∷ 1 ∷ []) 3 reads false)
     ∷ []
