@@ -350,7 +350,10 @@ killed-means c = record {
   rw = or-false (c .«pending_rx» .rw);
   update = or-false (c .«pending_rx» .«credit_update»);
   expiry = refl;
+  settings = refl;
+  addresses = (refl, refl, refl, refl);
   ring = refl;
+  peer = (refl, refl);
   counts = (refl, refl, refl);
 }
 

@@ -43,7 +43,8 @@ pub record RefusalsChangeNothing : Type 0 where
 
 -- ---- a packet
 
--- 01, `send_pkt`, "peer credit is always stored first": done, in any state and for any op, the guest's numbers are the header's; refused, the old ones
+-- 01, `send_pkt`, "peer credit is always stored first": in any state and for any op the guest's numbers are then the header's. A refusal leaves the
+-- old ones (`RefusalsChangeNothing`)
 pub record HearsCredit (i : SendIn) (o : SendLeft) : Type 0 where
   pub alloc : o .answer .number ≡ 0 → o .conn .«peer_buf_alloc» ≡ decoded (i .hdr) .«buf_alloc»
   pub fwd : o .answer .number ≡ 0 → o .conn .«peer_fwd_cnt» ≡ decoded (i .hdr) .«fwd_cnt»
@@ -171,7 +172,10 @@ pub record KillMeans (c d : VsockConnection) : Type 0 where
   pub rw : d .«pending_rx» .rw ≡ c .«pending_rx» .rw
   pub update : d .«pending_rx» .«credit_update» ≡ c .«pending_rx» .«credit_update»
   pub expiry : d .expiry ≡ c .expiry
+  pub settings : d .settings ≡ c .settings
+  pub addresses : (d .«local_cid» ≡ c .«local_cid») × (d .«peer_cid» ≡ c .«peer_cid») × (d .«local_port» ≡ c .«local_port») × (d .«peer_port» ≡ c .«peer_port»)
   pub ring : d .«tx_buf» ≡ c .«tx_buf»
+  pub peer : (d .«peer_buf_alloc» ≡ c .«peer_buf_alloc») × (d .«peer_fwd_cnt» ≡ c .«peer_fwd_cnt»)
   pub counts : (d .«fwd_cnt» ≡ c .«fwd_cnt») × (d .«rx_cnt» ≡ c .«rx_cnt») × (d .«last_fwd_cnt_to_peer» ≡ c .«last_fwd_cnt_to_peer»)
 
 abbrev pub EveryKillKills : Type 0
