@@ -15,7 +15,8 @@ use Rattle.defs.specs.declared.stream.StreamAnswer.{StreamAnswer}
 use Rattle.defs.specs.declared.stream.StreamAnswer.the-variants.{Count, WouldBlock, Failed}
 use Rattle.defs.proofs.AnswerLaws.{answer-told}
 use Rattle.defs.proofs.ChoiceLaws.{ap-when}
-use Rattle.defs.proofs.LadderLaws.{firstInTurn, by-turn, ladder-then, lowest-end, stop-number}
+use Rattle.defs.proofs.MeansLaws.{as-is}
+use Rattle.defs.proofs.LadderLaws.{firstInTurn, by-turn, row, ladder-then, lowest-end, stop-number}
 use Rattle.txbuf.specs.Flush.{endsBy, flushAnswer, flushCount, flushOver}
 use Rattle.csm.specs.Turn.{hasNothing, lacksBuffer}
 use Rattle.csm.proofs.TurnLaws.{turn-number}
@@ -36,7 +37,9 @@ send-told i = answer-told (λ (o : SendLeft). o .answer) (sendAnswer i) (sendDon
 pub send-answers : SendAnswers
 unfolding sendAnswer sendDoor sendDoorOf sendLate when
 send-answers i left says =
-    by-turn (left .answer) _
+    by-turn (left .answer)
+    (row 1 (as-is (not (soundOver (i .conn) (length (i .store))))) ∷ row 2 (as-is (not (isHeaderLength (length (i .hdr))))) ∷ row 3 (as-is (not (isClock (i .clock))))
+    ∷ row 4 (as-is (i .present && tooLong (pktOf i) (length (i .buf)))) ∷ row 5 (as-is (ltb (sendPlan i .len) (sendPlan i .written))) ∷ row 6 (as-is (ltb (length (i .out)) (sendPlan i .written))) ∷ [])
     (ap (λ (o : SendLeft). o .answer .number) says ∙ ap (λ (t : Told). t .number) (send-told i) ∙ ap (λ (a : Answer). told a .number) (sym (lowest-end _))
     ∙ ladder-then (not (soundOver (i .conn) (length (i .store)))) (not (isHeaderLength (length (i .hdr)))) (not (isClock (i .clock)))
     (i .present && tooLong (pktOf i) (length (i .buf))) (ltb (sendPlan i .len) (sendPlan i .written)) (ltb (length (i .out)) (sendPlan i .written)) Done [] refl)
@@ -52,7 +55,12 @@ recv-told i =
 pub recv-answers : RecvAnswers
 unfolding recvRefusal recvDoor when
 recv-answers i left says =
-    by-turn (left .answer) _
+    by-turn (left .answer)
+    (row 1 (as-is (not (soundConn (i .conn)))) ∷ row 2 (as-is (not (isHeaderLength (length (i .hdr))))) ∷ row 3 (as-is (not (isClock (i .clock))))
+    ∷ row 4 (as-is (i .present && not (isPacketLength (length (i .buf)))))
+    ∷ row 5 (as-is (readsOf (i .conn) (i .present) && (ltb (askedOf (i .conn) (length (i .buf))) (readCounted (i .answer)) || ltb (length (i .read)) (readCounted (i .answer)))))
+    ∷ row 7 (as-is (hasNothing (i .conn .«pending_rx») (i .conn .state) (eqb (creditOf (i .conn)) 0) (i .present) (i .answer)))
+    ∷ row 8 (as-is (lacksBuffer (i .conn .«pending_rx») (i .conn .state) (eqb (creditOf (i .conn)) 0) (i .present))) ∷ [])
     (ap (λ (o : RecvLeft). o .answer .number) says ∙ ap (λ (t : Told). t .number) (recv-told i)
     ∙ ladder-then (not (soundConn (i .conn))) (not (isHeaderLength (length (i .hdr)))) (not (isClock (i .clock))) (i .present && not (isPacketLength (length (i .buf))))
     (readsOf (i .conn) (i .present) && (ltb (askedOf (i .conn) (length (i .buf))) (readCounted (i .answer)) || ltb (length (i .read)) (readCounted (i .answer)))) false
@@ -97,7 +105,8 @@ notify-told i = answer-told (λ (o : NotifyLeft). o .answer) (notifyAnswer i) (n
 pub notify-answers : NotifyAnswers
 unfolding notifyAnswer notifyDoor
 notify-answers i left says =
-    by-turn (left .answer) _
+    by-turn (left .answer)
+    (row 1 (as-is (not (soundOver (i .conn) (length (i .store))))) ∷ row 5 (as-is (due i && flushOver (flushIn i))) ∷ row 6 (as-is (due i && ltb (length (i .out)) (flushCount (flushIn i)))) ∷ [])
     (ap (λ (o : NotifyLeft). o .answer .number) says ∙ ap (λ (t : Told). t .number) (notify-told i)
     ∙ event-number (soundOver (i .conn) (length (i .store))) (due i) (flushOver (flushIn i)) (ltb (length (i .out)) (flushCount (flushIn i))) _ (flush-late i))
 
@@ -110,7 +119,9 @@ raw-told i = answer-told (λ (o : RawLeft). o .answer) (rawAnswer i) (rawDone i)
 pub raw-answers : RawAnswers
 unfolding rawAnswer rawDoor when
 raw-answers i left says =
-    by-turn (left .answer) _
+    by-turn (left .answer)
+    (row 1 (as-is (not (soundConn (i .conn)))) ∷ row 4 (as-is (not (isPacketLength (length (i .buf))))) ∷ row 5 (as-is (ltb (length (i .buf)) (rawCount i)))
+    ∷ row 6 (as-is (ltb (length (i .out)) (rawCount i))) ∷ row 10 (as-is (stops (i .answers .first))) ∷ [])
     (ap (λ (o : RawLeft). o .answer .number) says ∙ ap (λ (t : Told). t .number) (raw-told i)
     ∙ ladder-then (not (soundConn (i .conn))) false false (not (isPacketLength (length (i .buf)))) (ltb (length (i .buf)) (rawCount i)) (ltb (length (i .out)) (rawCount i))
     (stoppedBy (i .answers .first)) ((10, stops (i .answers .first)) ∷ []) (stop-number (i .answers .first)))

@@ -1,6 +1,7 @@
 -- What this crate promises, in statements only; proofs/Promises has a line for each. Assumes nothing.
 use Prim.Native.Nat.{_≤_}
-use mathlib.Core.Bool.{Bool}
+use mathlib.Core.Path.{_≡_}
+use mathlib.Core.Bool.{Bool, true}
 use mathlib.Core.List.{[], _∷_}
 use Rattle.defs.specs.Choice.{when}
 use Rattle.defs.specs.Answer.{told}
@@ -25,7 +26,7 @@ abbrev pub TurnAnswers : Type 0
 TurnAnswers =
     (p : PendingRxSet) (s : ConnState) (noCredit present : Bool) (a : ReadAnswer)
     → AnswersInTurn (told (rowOf (turnStep p s noCredit present a) .answer))
-    ((7, hasNothing p s noCredit present a) ∷ (8, lacksBuffer p s noCredit present) ∷ [])
+    ((7, hasNothing p s noCredit present a ≡ true) ∷ (8, lacksBuffer p s noCredit present ≡ true) ∷ [])
 
 -- a SHUTDOWN takes no flag back
 abbrev pub ShutOnlyGrows : Type 0

@@ -1,10 +1,13 @@
--- The credit formula where no more is outstanding than was allocated. Assumes nothing.
+-- The credit formula where no more is outstanding than was allocated, and the threshold rule, over true counts. Assumes nothing.
 use Prim.Native.Nat.{ℕ, _-_, _%_, _^_, _<_, _≤_}
 use mathlib.Core.Path.{_≡_}
+use mathlib.Core.Bool.{true}
 use native.Mathlib.Omega.{arith}
+use lib.Dec.{ltb}
+use borrow.Author.Tests.{ltb-true, lt-ltb}
 use Rattle.defs.specs.Wrapping.{wsub}
-use Rattle.defs.specs.Credit.{peerAvailCredit}
-use Rattle.defs.specs.Promises.{CreditIsFreeSpace}
+use Rattle.defs.specs.Credit.{peerAvailCredit, peerNeedsCreditUpdate}
+use Rattle.defs.specs.Promises.{Exactly, CreditIsFreeSpace, ThresholdTells}
 
 -- the outstanding bytes are the true difference of the counts, though these wrap
 outstanding : (sent fwd : ℕ) → fwd ≤ sent → sent - fwd < 2 ^ 32 → wsub (sent % 2 ^ 32) (fwd % 2 ^ 32) ≡ sent - fwd
@@ -20,3 +23,14 @@ free-space alloc sent fwd h l k = rw (outstanding sent fwd l (omega arith)) (dif
 pub credit-is-free-space : CreditIsFreeSpace
 unfolding peerAvailCredit
 credit-is-free-space = free-space
+
+short-by : (size threshold apart : ℕ) → threshold ≤ size → size < 2 ^ 32 → apart < 2 ^ 32
+    → Exactly (ltb (wsub size apart) threshold ≡ true) ((apart ≤ size) × (size - apart < threshold))
+short-by size threshold apart t h k = (
+  λ e. let l = ltb-true (wsub size apart) threshold e in (omega arith, omega arith),
+  λ p. let u : apart ≤ size = p .0 in let v : size - apart < threshold = p .1 in lt-ltb (wsub size apart) threshold (omega arith),
+)
+
+pub threshold-tells : ThresholdTells
+unfolding peerNeedsCreditUpdate
+threshold-tells size threshold fwd told t h l k = rw (outstanding fwd told l k) (short-by size threshold (fwd - told) t h k)

@@ -12,7 +12,7 @@ use Rattle.defs.specs.Answer.{Told, told, isDone, whenDone}
 use Rattle.defs.specs.Ladder.{doorOf, lateOf, lowestOf, recordAnswer, clockAnswer}
 use Rattle.defs.specs.Limits.{isClock}
 use Rattle.defs.specs.Stream.{stoppedBy, stops}
-use Rattle.defs.specs.Promises.{rowAt, FirstInTurn, AnswersInTurn, LowestNumber, RecordAnswers, ClockAnswers}
+use Rattle.defs.specs.Promises.{Exactly, rowAt, FirstInTurn, AnswersInTurn, LowestNumber, RecordAnswers, ClockAnswers}
 use Rattle.defs.specs.declared.answer.Answer.{Answer}
 use Rattle.defs.specs.declared.answer.Answer.the-variants.{Done}
 use Rattle.defs.specs.declared.stream.StreamAnswer.{StreamAnswer}
@@ -20,46 +20,68 @@ use Rattle.defs.specs.declared.stream.StreamAnswer.the-variants.{Count, 
 use Rattle.defs.proofs.ChoiceLaws.{when-true, when-false}
 use Rattle.defs.proofs.AnswerLaws.{NotDone, not-done, is-done, done-is-done, when-done, when-not-done}
 use Rattle.defs.proofs.Basics.{never, lt-or-ge, true-or-false}
+use Rattle.defs.proofs.MeansLaws.{as-is, not-as-is}
+use Rattle.defs.proofs.LimitLaws.{clock-over}
 
 clash : (b : Bool) → b ≡ false → b ≡ true → ⊥
 clash b p q = never (sym p ∙ q)
+
+-- a row with the test that decides it
+pub record Decided : Type 1 where
+  pub number : ℕ
+  pub fact : Type 0
+  pub test : Bool
+  pub means : Exactly (test ≡ true) fact
+
+abbrev rowsOf : List Decided → List (ℕ × Type 0)
+rowsOf [] = []
+rowsOf (d ∷ l) = (d .number, d .fact) ∷ rowsOf l
+
+abbrev pub testsOf : List Decided → List (ℕ × Bool)
+testsOf [] = []
+testsOf (d ∷ l) = (d .number, d .test) ∷ testsOf l
 
 -- the number of the first row whose test holds, 0 where none does
 abbrev pub firstInTurn : List (ℕ × Bool) → ℕ
 firstInTurn [] = 0
 firstInTurn (r ∷ rows) = when (r .1) (r .0) (firstInTurn rows)
 
-first-holds : (r : ℕ × Bool) (rows : List (ℕ × Bool)) → r .1 ≡ true → FirstInTurn (r ∷ rows) (firstInTurn (r ∷ rows))
-first-holds r rows t = (0, sym (when-true (r .0) (firstInTurn rows) (r .1) t), t, λ j l. absurd (not-suc-le-zero l))
+first-holds : (d : Decided) (l : List Decided) → d .test ≡ true → FirstInTurn (rowsOf (d ∷ l)) (firstInTurn (testsOf (d ∷ l)))
+first-holds d l t = (0, sym (when-true (d .number) (firstInTurn (testsOf l)) (d .test) t), d .means .0 t, λ j k. absurd (not-suc-le-zero k))
 
-first-passes : (r : ℕ × Bool) (rows : List (ℕ × Bool)) → r .1 ≡ false → FirstInTurn rows (firstInTurn rows) → FirstInTurn (r ∷ rows) (firstInTurn (r ∷ rows))
-first-passes r rows f p = (suc (p .0), p .1 ∙ sym (when-false (r .0) (firstInTurn rows) (r .1) f), p .2, λ j l. above j l)
+first-passes : (d : Decided) (l : List Decided) → d .test ≡ false → FirstInTurn (rowsOf l) (firstInTurn (testsOf l))
+    → FirstInTurn (rowsOf (d ∷ l)) (firstInTurn (testsOf (d ∷ l)))
+first-passes d l f p = (suc (p .0), p .1 ∙ sym (when-false (d .number) (firstInTurn (testsOf l)) (d .test) f), p .2, λ j k. above j k)
   where
-    above : (j : ℕ) → j < suc (p .0) → rowAt (r ∷ rows) j .1 ≡ false
-    above zero l = f
-    above (suc j) l = p .3 j (le-of-suc-le-suc l)
+    above : (j : ℕ) → j < suc (p .0) → rowAt (rowsOf (d ∷ l)) j .1 → ⊥
+    above zero k q = clash (d .test) f (d .means .1 q)
+    above (suc j) k q = p .3 j (le-of-suc-le-suc k) q
 
-first-in-turn : (rows : List (ℕ × Bool)) → FirstInTurn rows (firstInTurn rows)
-first-in-turn [] = (0, refl, refl, λ j l. absurd (not-suc-le-zero l))
-first-in-turn (r ∷ rows) =
-    ⊎-elim (λ (t : r .1 ≡ true). first-holds r rows t) (λ (f : r .1 ≡ false). first-passes r rows f (first-in-turn rows)) (true-or-false (r .1))
+first-in-turn : (l : List Decided) → FirstInTurn (rowsOf l) (firstInTurn (testsOf l))
+first-in-turn [] = (0, refl, tt, λ j k. absurd (not-suc-le-zero k))
+first-in-turn (d ∷ l) =
+    ⊎-elim (λ (t : d .test ≡ true). first-holds d l t) (λ (f : d .test ≡ false). first-passes d l f (first-in-turn l)) (true-or-false (d .test))
 
-one-first : (rows : List (ℕ × Bool)) (n k : ℕ) → FirstInTurn rows n → FirstInTurn rows k → n ≡ k
+one-first : (rows : List (ℕ × Type 0)) (n k : ℕ) → FirstInTurn rows n → FirstInTurn rows k → n ≡ k
 one-first rows n k p q =
     ⊎-elim
-    (λ (l : p .0 < q .0). absurd (clash _ (q .3 (p .0) l) (p .2)))
+    (λ (l : p .0 < q .0). absurd (q .3 (p .0) l (p .2)))
     (λ (l : q .0 ≤ p .0).
     ⊎-elim
-    (λ (m : q .0 < p .0). absurd (clash _ (p .3 (q .0) m) (q .2)))
+    (λ (m : q .0 < p .0). absurd (p .3 (q .0) m (q .2)))
     (λ (m : p .0 ≤ q .0). let e : p .0 ≡ q .0 = omega arith in sym (p .1) ∙ ap (λ (i : ℕ). rowAt rows i .0) e ∙ q .1)
     (lt-or-ge (q .0) (p .0)))
     (lt-or-ge (p .0) (q .0))
 
 -- where a number is that of the first row whose test holds
-pub by-turn : (t : Told) (rows : List (ℕ × Bool)) → t .number ≡ firstInTurn rows → AnswersInTurn t rows
-by-turn t rows e = record {
-  exactly = λ n. (λ p. subst (FirstInTurn rows) (sym e ∙ p) (first-in-turn rows), λ q. e ∙ one-first rows _ n (first-in-turn rows) q);
+pub by-turn : (t : Told) (l : List Decided) → t .number ≡ firstInTurn (testsOf l) → AnswersInTurn t (rowsOf l)
+by-turn t l e = record {
+  exactly = λ n. (λ p. subst (FirstInTurn (rowsOf l)) (sym e ∙ p) (first-in-turn l), λ q. e ∙ one-first (rowsOf l) _ n (first-in-turn l) q);
 }
+
+-- a row by its number and what its test means
+abbrev pub row : {fact : Type 0} {test : Bool} → ℕ → Exactly (test ≡ true) fact → Decided
+row {fact} {test} n means = record { number = n; fact = fact; test = test; means = means }
 
 -- what comes after door and late rungs decides where these pass
 pub ladder-then : (r h c l a m : Bool) (end : Answer) (rest : List (ℕ × Bool)) → told end .number ≡ firstInTurn rest
@@ -96,17 +118,18 @@ lowest-end p =
     (true-or-false (isDone p))
 
 pub lowest-number : LowestNumber
-unfolding when
 lowest-number r h c l a m =
-    by-turn (told (lowestOf (doorOf r h c l) (lateOf a m))) _ (ap (λ (x : Answer). told x .number) (sym (lowest-end _)) ∙ ladder-then r h c l a m Done [] refl)
+    by-turn (told (lowestOf (doorOf r h c l) (lateOf a m)))
+    (row 1 (as-is r) ∷ row 2 (as-is h) ∷ row 3 (as-is c) ∷ row 4 (as-is l) ∷ row 5 (as-is a) ∷ row 6 (as-is m) ∷ [])
+    (ap (λ (x : Answer). told x .number) (sym (lowest-end _)) ∙ ladder-then r h c l a m Done [] refl)
 
-record-number : (s : Bool) → told (recordAnswer s) .number ≡ firstInTurn ((1, not s) ∷ [])
+pub record-number : (s : Bool) → told (recordAnswer s) .number ≡ firstInTurn ((1, not s) ∷ [])
 unfolding recordAnswer doorOf when
 record-number true = refl
 record-number false = refl
 
 pub record-answers : RecordAnswers
-record-answers sound = by-turn (told (recordAnswer sound)) _ (record-number sound)
+record-answers sound = by-turn (told (recordAnswer sound)) (row 1 (not-as-is sound) ∷ []) (record-number sound)
 
 clock-number : (s c : Bool) → told (doorOf (not s) false (not c) false) .number ≡ firstInTurn ((1, not s) ∷ (3, not c) ∷ [])
 unfolding doorOf when
@@ -116,7 +139,8 @@ clock-number false c = refl
 
 pub clock-answers : ClockAnswers
 unfolding clockAnswer
-clock-answers sound ms = by-turn (told (clockAnswer sound ms)) _ (clock-number sound (isClock ms))
+clock-answers sound ms =
+    by-turn (told (clockAnswer sound ms)) (row 1 (not-as-is sound) ∷ row 3 (clock-over ms) ∷ []) (clock-number sound (isClock ms))
 
 -- ---- for callers: what a part that passed or refused says
 

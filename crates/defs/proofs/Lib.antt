@@ -1,10 +1,11 @@
 pub mod Basics
 pub mod ChoiceLaws
+pub mod MeansLaws
+pub mod LimitLaws
 pub mod AnswerLaws
 pub mod LadderLaws
 pub mod LookLaws
 pub mod StreamLaws
-pub mod LimitLaws
 pub mod WrappingLaws
 pub mod CreditLaws
 pub mod CopyLaws

@@ -2,15 +2,16 @@
 use Prim.Native.Nat.{ℕ, zero, suc, _+_, _-_, _*_, _/_, _%_, _^_, _<_, _≤_}
 use mathlib.Core.Path.{_≡_, refl, sym, ap, _∙_}
 use mathlib.Core.Logic.{_⊎_, inl, inr, ⊎-elim}
-use mathlib.Core.Bool.{true}
+use mathlib.Core.Bool.{true, not}
 use native.Mathlib.Omega.{arith}
 use native.Mathlib.Nat.{mul-add, add-mul, mul-suc, mul-zero, zero-mul, two-pow-succ, div-add-mod, mul-mod-right, pow-le-pow-right, dvd-of-mod-eq-zero, le-of-dvd}
 use lib.Pow.{pow-add}
 use lib.Dec.{leb, eqb}
 use borrow.Author.Tests.{leb-true, eqb-true, le-leb, eq-eqb}
-use Rattle.defs.specs.Limits.{minRing, maxRingLog, maxRing, isRingSize, minTimeout, maxTimeout, isTimeout, maxClock, isClock, maxPacket, isPacketLength, headerSize, isHeaderLength}
-use Rattle.defs.specs.Promises.{Exactly, PowerOfTwo, RingSizes}
+use Rattle.defs.specs.Limits.{minRing, maxRingLog, maxRing, isRingSize, isThreshold, maxTimeout, isTimeout, isRxqLimit, isKillqLimit, isSlotCount, maxClock, isClock, maxPacket, isPacketLength, headerSize, isHeaderLength}
+use Rattle.defs.specs.Promises.{Exactly, PowerOfTwo, RingSizes, LimitsMean}
 use Rattle.defs.proofs.Basics.{both, lt-or-ge}
+use Rattle.defs.proofs.MeansLaws.{within-means, over-means, equal-means, and-means}
 
 half : (q : ℕ) → (h : ℕ) × ((q ≡ h + h) ⊎ (q ≡ suc (h + h)))
 half zero = (zero, inl refl)
@@ -83,18 +84,36 @@ ring-sizes size = (
       simp (le-leb minRing size (p .1), eq-eqb _ _ z),
 )
 
+pub limits-mean : LimitsMean
+unfolding isThreshold isTimeout isRxqLimit isKillqLimit isSlotCount isClock isPacketLength isHeaderLength
+limits-mean = record {
+  threshold = λ t size. and-means (within-means 1 t) (within-means t size);
+  timeout = λ ms. and-means (within-means 1 ms) (within-means ms 60000);
+  rxq = λ limit. and-means (within-means 1 limit) (within-means limit 256);
+  killq = λ limit. and-means (within-means 1 limit) (within-means limit 128);
+  slots = λ slots. and-means (within-means 1 slots) (within-means slots 512);
+  clock = λ ms. within-means ms (2 ^ 62);
+  packet = λ bytes. within-means bytes 65536;
+  header = λ bytes. equal-means bytes 44;
+}
+
 pub header-length : (bytes : ℕ) → Exactly (isHeaderLength bytes ≡ true) (bytes ≡ headerSize)
-unfolding isHeaderLength
-header-length bytes = (eqb-true bytes headerSize, eq-eqb bytes headerSize)
+header-length = limits-mean .header
 
 pub packet-length : (bytes : ℕ) → Exactly (isPacketLength bytes ≡ true) (bytes ≤ maxPacket)
-unfolding isPacketLength
-packet-length bytes = (leb-true bytes maxPacket, le-leb bytes maxPacket)
+packet-length = limits-mean .packet
 
 pub clock-within : (ms : ℕ) → Exactly (isClock ms ≡ true) (ms ≤ maxClock)
+clock-within = limits-mean .clock
+
+-- the same where a number is turned away
+pub packet-over : (bytes : ℕ) → Exactly (not (isPacketLength bytes) ≡ true) (65536 < bytes)
+unfolding isPacketLength
+packet-over bytes = over-means bytes 65536
+
+pub clock-over : (ms : ℕ) → Exactly (not (isClock ms) ≡ true) (2 ^ 62 < ms)
 unfolding isClock
-clock-within ms = (leb-true ms maxClock, le-leb ms maxClock)
+clock-over ms = over-means ms (2 ^ 62)
 
 pub timeout-most : (ms : ℕ) → isTimeout ms ≡ true → ms ≤ maxTimeout
-unfolding isTimeout
-timeout-most ms e = leb-true ms maxTimeout (both (leb minTimeout ms) (leb ms maxTimeout) e .1)
+timeout-most ms e = limits-mean .timeout ms .0 e .1

@@ -2,7 +2,7 @@
 use mathlib.Core.Path.{refl}
 use Rattle.defs.specs.Credit.{peerAvailCredit, peerNeedsCreditUpdate}
 use Rattle.defs.specs.Edges.{readingE, readingH}
-use Rattle.defs.specs.Promises.{ToldTellsApart, LowestNumber, RecordAnswers, ClockAnswers, RingSizes, WrapsAround, KeepsPlace, CreditIsFreeSpace, EdgesHold}
+use Rattle.defs.specs.Promises.{ToldTellsApart, LowestNumber, RecordAnswers, ClockAnswers, RingSizes, LimitsMean, WrapsAround, KeepsPlace, CreditIsFreeSpace, ThresholdTells, EdgesHold}
 use Rattle.defs.proofs.AnswerLaws as answers
 use Rattle.defs.proofs.LadderLaws as ladder
 use Rattle.defs.proofs.LimitLaws as limits
@@ -24,6 +24,9 @@ clock-answers = ladder.clock-answers
 pub ring-sizes : RingSizes
 ring-sizes = limits.ring-sizes
 
+pub limits-mean : LimitsMean
+limits-mean = limits.limits-mean
+
 pub wraps-around : WrapsAround
 wraps-around = wrapping.wraps-around
 
@@ -32,6 +35,9 @@ keeps-place = wrapping.keeps-place
 
 pub credit-is-free-space : CreditIsFreeSpace
 credit-is-free-space = credit.credit-is-free-space
+
+pub threshold-tells : ThresholdTells
+threshold-tells = credit.threshold-tells
 
 pub edges-hold : EdgesHold
 unfolding readingE readingH peerAvailCredit peerNeedsCreditUpdate

@@ -1,14 +1,14 @@
 -- What this crate promises, in statements only; proofs/Promises has a line for each. Assumes nothing.
 use Prim.Native.Nat.{ℕ, _+_, _-_, _%_, _^_, _<_, _≤_}
 use mathlib.Core.Path.{_≡_}
-use mathlib.Core.Bool.{Bool, true, false, not}
+use mathlib.Core.Bool.{Bool, true, false}
 use mathlib.Core.List.{List, [], _∷_}
 use lib.ListN.{getD}
 use Rattle.defs.specs.Answer.{Told, told}
-use Rattle.defs.specs.Limits.{minRing, maxRing, isRingSize, isClock}
+use Rattle.defs.specs.Limits.{isRingSize, isThreshold, isTimeout, isRxqLimit, isKillqLimit, isSlotCount, isClock, isPacketLength, isHeaderLength}
 use Rattle.defs.specs.Ladder.{doorOf, lateOf, lowestOf, recordAnswer, clockAnswer}
 use Rattle.defs.specs.Wrapping.{wadd, wsub}
-use Rattle.defs.specs.Credit.{peerAvailCredit}
+use Rattle.defs.specs.Credit.{peerAvailCredit, peerNeedsCreditUpdate}
 use Rattle.defs.specs.Reading.{Hold}
 use Rattle.defs.specs.Edges.{readingE, readingH}
 use Rattle.defs.specs.declared.answer.Answer.{Answer}
@@ -21,16 +21,16 @@ Exactly p q = (p → q) × (q → p)
 abbrev pub ToldTellsApart : Type 0
 ToldTellsApart = (a b : Answer) → told a ≡ told b → a ≡ b
 
--- row i of a list of rows, each a number of 01's table and its test; past the last stands 0, "otherwise"
-abbrev pub rowAt : List (ℕ × Bool) → ℕ → ℕ × Bool
-rowAt rows i = getD rows i (0, true)
+-- row i of a list of rows, each a number of 01's table and when it is given; past the last stands 0, "otherwise"
+abbrev pub rowAt : List (ℕ × Type 0) → ℕ → ℕ × Type 0
+rowAt rows i = getD rows i (0, Unit)
 
--- a row of this number is the first whose test holds
-abbrev pub FirstInTurn : List (ℕ × Bool) → ℕ → Type 0
-FirstInTurn rows n = (i : ℕ) × (rowAt rows i .0 ≡ n) × (rowAt rows i .1 ≡ true) × ((j : ℕ) → j < i → rowAt rows j .1 ≡ false)
+-- a row of this number is given, and none before it
+abbrev pub FirstInTurn : List (ℕ × Type 0) → ℕ → Type 0
+FirstInTurn rows n = (i : ℕ) × (rowAt rows i .0 ≡ n) × rowAt rows i .1 × ((j : ℕ) → j < i → rowAt rows j .1 → ⊥)
 
 -- 01's "given exactly when" and "several at once: the lowest number": rows stand in the order in which they are tried
-pub record AnswersInTurn (t : Told) (rows : List (ℕ × Bool)) : Type 0 where
+pub record AnswersInTurn (t : Told) (rows : List (ℕ × Type 0)) : Type 0 where
   pub exactly : (n : ℕ) → Exactly (t .number ≡ n) (FirstInTurn rows n)
 
 -- a refusal that changes nothing: a number from 1 to 6
@@ -40,22 +40,35 @@ Refuses t = (1 ≤ t .number) × (t .number ≤ 6)
 -- the ladder does so, rows 1 to 6
 abbrev pub LowestNumber : Type 0
 LowestNumber =
-    (r h c l a m : Bool) → AnswersInTurn (told (lowestOf (doorOf r h c l) (lateOf a m))) ((1, r) ∷ (2, h) ∷ (3, c) ∷ (4, l) ∷ (5, a) ∷ (6, m) ∷ [])
+    (r h c l a m : Bool)
+    → AnswersInTurn (told (lowestOf (doorOf r h c l) (lateOf a m)))
+    ((1, r ≡ true) ∷ (2, h ≡ true) ∷ (3, c ≡ true) ∷ (4, l ≡ true) ∷ (5, a ≡ true) ∷ (6, m ≡ true) ∷ [])
 
 -- so does a call that tests nothing but its record, and one that tests its clock besides
 abbrev pub RecordAnswers : Type 0
-RecordAnswers = (sound : Bool) → AnswersInTurn (told (recordAnswer sound)) ((1, not sound) ∷ [])
+RecordAnswers = (sound : Bool) → AnswersInTurn (told (recordAnswer sound)) ((1, sound ≡ false) ∷ [])
 
 abbrev pub ClockAnswers : Type 0
-ClockAnswers = (sound : Bool) (ms : ℕ) → AnswersInTurn (told (clockAnswer sound ms)) ((1, not sound) ∷ (3, not (isClock ms)) ∷ [])
+ClockAnswers = (sound : Bool) (ms : ℕ) → AnswersInTurn (told (clockAnswer sound ms)) ((1, sound ≡ false) ∷ (3, 2 ^ 62 < ms) ∷ [])
 
 -- a power of two
 abbrev pub PowerOfTwo : ℕ → Type 0
 PowerOfTwo size = (k : ℕ) × (size ≡ 2 ^ k)
 
--- the quick test of a ring's size says what 01 says: a power of two from the smallest to the largest
+-- the quick test of a ring's size says what 01 says: a power of two from 16 to 65,536
 abbrev pub RingSizes : Type 0
-RingSizes = (size : ℕ) → Exactly (isRingSize size ≡ true) (PowerOfTwo size × (minRing ≤ size) × (size ≤ maxRing))
+RingSizes = (size : ℕ) → Exactly (isRingSize size ≡ true) (PowerOfTwo size × (16 ≤ size) × (size ≤ 65536))
+
+-- so does every other test of a number: 01's limits ("The numbers of a connection", "The stream, the clock, the header") as numbers
+pub record LimitsMean : Type 0 where
+  pub threshold : (t size : ℕ) → Exactly (isThreshold t size ≡ true) ((1 ≤ t) × (t ≤ size))
+  pub timeout : (ms : ℕ) → Exactly (isTimeout ms ≡ true) ((1 ≤ ms) × (ms ≤ 60000))
+  pub rxq : (limit : ℕ) → Exactly (isRxqLimit limit ≡ true) ((1 ≤ limit) × (limit ≤ 256))
+  pub killq : (limit : ℕ) → Exactly (isKillqLimit limit ≡ true) ((1 ≤ limit) × (limit ≤ 128))
+  pub slots : (slots : ℕ) → Exactly (isSlotCount slots ≡ true) ((1 ≤ slots) × (slots ≤ 512))
+  pub clock : (ms : ℕ) → Exactly (isClock ms ≡ true) (ms ≤ 2 ^ 62)
+  pub packet : (bytes : ℕ) → Exactly (isPacketLength bytes ≡ true) (bytes ≤ 65536)
+  pub header : (bytes : ℕ) → Exactly (isHeaderLength bytes ≡ true) (bytes ≡ 44)
 
 -- wrapping sums and differences are those of the numbers modulo 2^32
 pub record WrapsAround : Type 0 where
@@ -74,6 +87,13 @@ abbrev pub CreditIsFreeSpace : Type 0
 CreditIsFreeSpace =
     (alloc sent fwd : ℕ) → alloc < 2 ^ 32 → fwd ≤ sent → sent - fwd ≤ alloc
     → peerAvailCredit alloc (sent % 2 ^ 32) (fwd % 2 ^ 32) ≡ alloc - (sent - fwd)
+
+-- the threshold rule over true counts: the guest was told `told` and has sent at least `fwd`, so by what it knows at most R - (fwd - told) bytes are
+-- free. An update is set exactly when that is below T; past R, which only a guest that heeds no credit reaches, none is (reading e, 17)
+abbrev pub ThresholdTells : Type 0
+ThresholdTells =
+    (size threshold fwd told : ℕ) → threshold ≤ size → size < 2 ^ 32 → told ≤ fwd → fwd - told < 2 ^ 32
+    → Exactly (peerNeedsCreditUpdate size threshold (fwd % 2 ^ 32) (told % 2 ^ 32) ≡ true) ((fwd - told ≤ size) × (size - (fwd - told) < threshold))
 
 -- 01's readings at the edges of this crate
 pub record EdgesHold : Type 0 where

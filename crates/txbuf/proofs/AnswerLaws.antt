@@ -1,4 +1,5 @@
 -- Each call on a ring answers by 01's rows. Assumes nothing.
+use Prim.Native.Nat.{_+_}
 use mathlib.Core.Path.{_≡_, refl, sym, ap, _∙_}
 use mathlib.Core.Bool.{Bool, true, false, not, _&&_}
 use mathlib.Core.List.{[], _∷_}
@@ -13,7 +14,9 @@ use Rattle.defs.specs.declared.answer.Answer.{Answer}
 use Rattle.defs.specs.declared.answer.Answer.the-variants.{Done, TxBufFull}
 use Rattle.defs.specs.declared.stream.StreamAnswer.{StreamAnswer}
 use Rattle.defs.proofs.AnswerLaws.{answer-told}
-use Rattle.defs.proofs.LadderLaws.{firstInTurn, by-turn, ladder-then, lowest-end, stop-number}
+use Rattle.defs.proofs.LimitLaws.{packet-over}
+use Rattle.defs.proofs.MeansLaws.{as-is, not-as-is, below-means}
+use Rattle.defs.proofs.LadderLaws.{firstInTurn, by-turn, row, ladder-then, lowest-end, stop-number}
 use Rattle.txbuf.specs.Record.{usedOf, soundOf}
 use Rattle.txbuf.specs.Push.{PushIn, PushLeft, pushAnswer, pushAnswerOf, pushDone, pushKept, pushOf}
 use Rattle.txbuf.specs.Flush.{FlushIn, FlushLeft, endsBy, flushAnswer, flushCount, flushOver, flushDone, flushKept, flushOf}
@@ -40,7 +43,9 @@ push-told i = answer-told (λ (o : PushLeft). o .answer) (pushAnswerOf i) (pushD
 pub push-answers : PushAnswers
 unfolding pushAnswer
 push-answers i left says =
-    by-turn (left .answer) _
+    by-turn (left .answer)
+    (row 1 (not-as-is (soundOf (i .ring) (length (i .store)))) ∷ row 4 (packet-over (length (i .src)))
+    ∷ row 9 (below-means (length (i .store)) (usedOf (i .ring) + length (i .src))) ∷ [])
     (ap (λ (o : PushLeft). o .answer .number) says ∙ ap (λ (t : Told). t .number) (push-told i)
     ∙ push-ladder (not (soundOf (i .ring) (length (i .store)))) (not (isPacketLength (length (i .src)))) _)
 
@@ -59,7 +64,9 @@ flush-told i = answer-told (λ (o : FlushLeft). o .answer) (flushAnswer i) (flus
 pub flush-answers : FlushAnswers
 unfolding flushAnswer recordAnswer endsBy when
 flush-answers i left says =
-    by-turn (left .answer) _
+    by-turn (left .answer)
+    (row 1 (not-as-is (soundOf (i .ring) (length (i .store)))) ∷ row 5 (as-is (flushOver i)) ∷ row 6 (below-means (length (i .out)) (flushCount i))
+    ∷ row 10 (as-is (not (eqb (usedOf (i .ring)) 0) && stops (i .answers .first))) ∷ [])
     (ap (λ (o : FlushLeft). o .answer .number) says ∙ ap (λ (t : Told). t .number) (flush-told i)
     ∙ ladder-then (not (soundOf (i .ring) (length (i .store)))) false false false (flushOver i) (ltb (length (i .out)) (flushCount i))
     (when (eqb (usedOf (i .ring)) 0) Done (stoppedBy (i .answers .first)))
