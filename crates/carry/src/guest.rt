@@ -17,7 +17,7 @@ use packet::uapi;
 
 pub fn listen(trip: Trip) -> Trip {
     let conn = trip.conn;
-    let due = conn.has_pending_rx();
+    let due = connection::has_pending_rx(conn);
     if due.holds {
         return hear(trip);
     }
@@ -29,7 +29,8 @@ fn hear(trip: Trip) -> Trip {
     let mut hdr = [0u8; VSOCK_PKT_HDR_SIZE];
     let mut nothing = [0u8; 0];
     let before = trip.conn;
-    let got = before.recv_pkt(
+    let got = connection::recv_pkt(
+        before,
         &mut hdr,
         false,
         &mut nothing,
@@ -116,7 +117,7 @@ fn deliver(
     let first = tried(before, &hdr, data, storage, mood(moods, trip.writes));
     let second = StreamAnswer::WouldBlock;
     let answers = StreamAnswers { first, second };
-    let after = before.send_pkt(&hdr, true, data, 0, storage, answers, out);
+    let after = connection::send_pkt(before, &hdr, true, data, 0, storage, answers, out);
     let answer = after.answer;
     let conn = after.conn;
     let mut t = trip::moved(trip, conn, answer);
@@ -154,8 +155,11 @@ fn heading(op: u16, flags: u32, len: u32, hdr: &mut [u8]) {
 }
 
 fn tried(conn: VsockConnection, hdr: &[u8], data: &[u8], storage: &[u8], mood: u8) -> StreamAnswer {
-    if conn.send_writes(hdr, true, data, 0, storage) {
-        return host::offer(conn.send_offered(hdr, true, data, 0, storage), mood);
+    if connection::send_writes(conn, hdr, true, data, 0, storage) {
+        return host::offer(
+            connection::send_offered(conn, hdr, true, data, 0, storage),
+            mood,
+        );
     }
     StreamAnswer::WouldBlock
 }

@@ -13,7 +13,7 @@ use libc::STDOUT_FILENO;
 // An out-event, where the ring holds anything.
 pub fn drain(trip: Trip, moods: &[u8], storage: &[u8], out: &mut [u8]) -> Trip {
     let before = trip.conn;
-    let polled = before.get_polled_evset();
+    let polled = connection::get_polled_evset(before);
     if polled.writable {
         return flush(trip, mood(moods, trip.writes), moods.len(), storage, out);
     }
@@ -22,12 +22,12 @@ pub fn drain(trip: Trip, moods: &[u8], storage: &[u8], out: &mut [u8]) -> Trip {
 
 fn flush(trip: Trip, mood: u8, moods: usize, storage: &[u8], out: &mut [u8]) -> Trip {
     let before = trip.conn;
-    let piece = before.notify_offered(true, storage);
+    let piece = connection::notify_offered(before, true, storage);
     let first = offer(piece, mood);
     let whole = count_of(first) == piece.len();
     let second = followed(before, whole, storage, mood);
     let answers = StreamAnswers { first, second };
-    let after = before.notify(false, true, storage, answers, out);
+    let after = connection::notify(before, false, true, storage, answers, out);
     let answer = after.answer;
     let conn = after.conn;
     let mut t = trip::moved(trip, conn, answer);
@@ -39,7 +39,7 @@ fn flush(trip: Trip, mood: u8, moods: usize, storage: &[u8], out: &mut [u8]) -> 
 
 // The second piece, offered only if the first was taken whole.
 fn followed(conn: VsockConnection, whole: bool, storage: &[u8], mood: u8) -> StreamAnswer {
-    let piece = conn.notify_offered_next(true, storage);
+    let piece = connection::notify_offered_next(conn, true, storage);
     if whole & (piece.len() != 0) {
         return offer(piece, mood);
     }

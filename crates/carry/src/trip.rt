@@ -44,7 +44,7 @@ pub fn opened(size: u32) -> Trip {
         request_timeout: 2000,
         shutdown_timeout: MAX_TIMEOUT_MS,
     };
-    let opening = VsockConnection::new_peer_init(
+    let opening = connection::new_peer_init(
         size,
         settings,
         HOST_CID,

@@ -6,37 +6,37 @@ use denote.Ref.{now}
 use Rattle.defs.specs.Answer.{Told, told}
 use Rattle.defs.specs.Look.{FlagLeft}
 use Rattle.defs.specs.Pinned.{Pinned}
-use Rattle.connection.specs.Open.{ConnLeft}
-use Rattle.connection.specs.Look.{ExpiryLeft, StateLeft, EvSetLeft}
-use Rattle.connection.specs.Raw.{RawLeft}
-use Rattle.connection.specs.Receive.{RecvLeft}
-use Rattle.connection.specs.Send.{SendLeft}
-use Rattle.connection.specs.Notify.{NotifyLeft}
-use Rattle.connection.specs.Offer.{AskedLeft}
+use Rattle.rules.specs.Open.{ConnLeft}
+use Rattle.rules.specs.Look.{ExpiryLeft, StateLeft, EvSetLeft}
+use Rattle.rules.specs.Raw.{RawLeft}
+use Rattle.rules.specs.Receive.{RecvLeft}
+use Rattle.rules.specs.Send.{SendLeft}
+use Rattle.rules.specs.Notify.{NotifyLeft}
+use Rattle.rules.specs.Offer.{AskedLeft}
 use Rattle.defs.proofs.Pins.{by-equation}
-use Rattle.connection.proofs.record.VsockConnection.new_peer_init.Reads as new-peer-init
-use Rattle.connection.proofs.record.VsockConnection.new_local_init.Reads as new-local-init
-use Rattle.connection.proofs.record.VsockConnection.has_pending_rx.Reads as has-pending-rx
-use Rattle.connection.proofs.record.VsockConnection.will_expire.Reads as will-expire
-use Rattle.connection.proofs.record.VsockConnection.has_expired.Reads as has-expired
-use Rattle.connection.proofs.record.VsockConnection.expiry.Reads as expiry
-use Rattle.connection.proofs.record.VsockConnection.state.Reads as state
-use Rattle.connection.proofs.record.VsockConnection.get_polled_evset.Reads as get-polled-evset
-use Rattle.connection.proofs.record.VsockConnection.kill.Reads as kill
-use Rattle.connection.proofs.record.VsockConnection.send_bytes_raw.Reads as send-bytes-raw
-use Rattle.connection.proofs.record.VsockConnection.recv_pkt.Reads as recv-pkt
-use Rattle.connection.proofs.record.VsockConnection.send_pkt.Reads as send-pkt
-use Rattle.connection.proofs.record.VsockConnection.notify.Reads as notify
-use Rattle.connection.proofs.record.VsockConnection.send_door.Reads as send-door
-use Rattle.connection.proofs.record.VsockConnection.send_writes.Reads as send-writes
-use Rattle.connection.proofs.record.VsockConnection.send_offered.Reads as send-offered
-use Rattle.connection.proofs.record.VsockConnection.recv_door.Reads as recv-door
-use Rattle.connection.proofs.record.VsockConnection.recv_asked.Reads as recv-asked
-use Rattle.connection.proofs.record.VsockConnection.notify_door.Reads as notify-door
-use Rattle.connection.proofs.record.VsockConnection.notify_offered.Reads as notify-offered
-use Rattle.connection.proofs.record.VsockConnection.notify_offered_next.Reads as notify-offered-next
-use Rattle.connection.proofs.record.VsockConnection.raw_door.Reads as raw-door
-use Rattle.connection.proofs.record.VsockConnection.raw_offered.Reads as raw-offered
+use Rattle.connection.proofs.open.new_peer_init.Reads as new-peer-init
+use Rattle.connection.proofs.open.new_local_init.Reads as new-local-init
+use Rattle.connection.proofs.look.has_pending_rx.Reads as has-pending-rx
+use Rattle.connection.proofs.look.will_expire.Reads as will-expire
+use Rattle.connection.proofs.look.has_expired.Reads as has-expired
+use Rattle.connection.proofs.look.expiry.Reads as expiry
+use Rattle.connection.proofs.look.state.Reads as state
+use Rattle.connection.proofs.look.get_polled_evset.Reads as get-polled-evset
+use Rattle.connection.proofs.look.kill.Reads as kill
+use Rattle.connection.proofs.raw.send_bytes_raw.Reads as send-bytes-raw
+use Rattle.connection.proofs.receive.recv_pkt.Reads as recv-pkt
+use Rattle.connection.proofs.send.send_pkt.Reads as send-pkt
+use Rattle.connection.proofs.event.notify.Reads as notify
+use Rattle.connection.proofs.offer.send_door.Reads as send-door
+use Rattle.connection.proofs.offer.send_writes.Reads as send-writes
+use Rattle.connection.proofs.offer.send_offered.Reads as send-offered
+use Rattle.connection.proofs.offer.recv_door.Reads as recv-door
+use Rattle.connection.proofs.offer.recv_asked.Reads as recv-asked
+use Rattle.connection.proofs.event.notify_door.Reads as notify-door
+use Rattle.connection.proofs.offer.notify_offered.Reads as notify-offered
+use Rattle.connection.proofs.offer.notify_offered_next.Reads as notify-offered-next
+use Rattle.connection.proofs.raw.raw_door.Reads as raw-door
+use Rattle.connection.proofs.offer.raw_offered.Reads as raw-offered
 
 -- any two outcomes that meet a call's contract are identical: what it gives back, its answer by `told`, and what it leaves behind each `&mut`; the first parameter's end is `e .0`, the second's `e .1 .0`
 pub record EachCallPinned : Type 0 where

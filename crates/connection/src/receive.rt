@@ -9,9 +9,8 @@ ghost use Rattle.defs.specs.Choice.{when};
 ghost use Rattle.defs.specs.Limits.{maxPacket, maxClock, maxTimeout};
 ghost use Rattle.csm.specs.Row.{rowOf};
 ghost use Rattle.csm.specs.Timer.{later};
-ghost use Rattle.connection.specs.Receive.{nextStep, spokenOf, Receivable, receivedOf, headerOf, readsOf, recvDoor, recvRefusal, RecvIn, RecvLeft, RecvSays};
+ghost use Rattle.rules.specs.Receive.{nextStep, spokenOf, Receivable, receivedOf, headerOf, readsOf, recvDoor, recvRefusal, RecvIn, RecvLeft, RecvSays};
 use crate::record::Outcome;
-use crate::record::VsockConnection;
 use crate::record::credit;
 use crate::record::is_sound;
 use crate::record::with_state;
@@ -27,45 +26,44 @@ use defs::ReadAnswer;
 use defs::limits;
 use packet::VsockPacketHdr;
 use packet::uapi;
+use rules::VsockConnection;
 
-impl VsockConnection {
-    // Fills in the next packet for the guest. `buf` counts only where it is `present`; `read`
-    // holds the bytes that the stream's answer brought.
-    pub fn recv_pkt(
-        self,
-        hdr: &mut [u8],
-        present: bool,
-        buf: &mut [u8],
-        now_ms: u64,
-        answer: ReadAnswer,
-        read: &[u8],
-    ) -> Outcome
-        ensures { λ r. ⌜ RecvSays (record { conn = self; hdr = now (hdr .entry); present = present; buf = now (buf .entry); clock = «now_ms»; answer = answer; read = now (read .entry) }) (record { answer = told (r .answer); conn = r .conn; hdr = now (hdr .exit); buf = now (buf .exit) }) ⌝ }
-    {
-        let refusal = recv_refusal(
-            self,
-            hdr.len(),
-            present,
-            buf.len(),
-            now_ms,
-            answer,
-            read.len(),
-        );
-        let Answer::Done = refusal else {
-            return Outcome {
-                answer: refusal,
-                conn: self,
-            };
+// Fills in the next packet for the guest. `buf` counts only where it is `present`; `read`
+// holds the bytes that the stream's answer brought.
+pub fn recv_pkt(
+    conn: VsockConnection,
+    hdr: &mut [u8],
+    present: bool,
+    buf: &mut [u8],
+    now_ms: u64,
+    answer: ReadAnswer,
+    read: &[u8],
+) -> Outcome
+    ensures { λ r. ⌜ RecvSays (record { conn = conn; hdr = now (hdr .entry); present = present; buf = now (buf .entry); clock = «now_ms»; answer = answer; read = now (read .entry) }) (record { answer = told (r .answer); conn = r .conn; hdr = now (hdr .exit); buf = now (buf .exit) }) ⌝ }
+{
+    let refusal = recv_refusal(
+        conn,
+        hdr.len(),
+        present,
+        buf.len(),
+        now_ms,
+        answer,
+        read.len(),
+    );
+    let Answer::Done = refusal else {
+        return Outcome {
+            answer: refusal,
+            conn,
         };
-        let row = next_row(self, present, answer);
-        let count = row.count;
-        let said = row.answer;
-        packet::encode(header(self, row), hdr);
-        defs::copy(buf, &read[..count]);
-        Outcome {
-            answer: said,
-            conn: received(self, row, now_ms),
-        }
+    };
+    let row = next_row(conn, present, answer);
+    let count = row.count;
+    let said = row.answer;
+    packet::encode(header(conn, row), hdr);
+    defs::copy(buf, &read[..count]);
+    Outcome {
+        answer: said,
+        conn: received(conn, row, now_ms),
     }
 }
 

@@ -11,10 +11,9 @@ ghost use Rattle.defs.specs.Choice.{when};
 ghost use Rattle.defs.specs.Answer.{told};
 ghost use Rattle.defs.specs.Limits.{maxRing, maxPacket};
 ghost use Rattle.txbuf.specs.Push.{PushLeft};
-ghost use Rattle.connection.specs.Send.{heardOf, movedOf, updatedOf, onResponse, onShutdown, onCreditRequest, onData, ruleOf, goesOf, planOf, killsOf, sendDoorOf, sendLate, Lingers, Killable, carried, Carries, SendIn, SendLeft, SendSays};
+ghost use Rattle.rules.specs.Send.{heardOf, movedOf, updatedOf, onResponse, onShutdown, onCreditRequest, onData, ruleOf, goesOf, planOf, killsOf, sendDoorOf, sendLate, Lingers, Killable, carried, Carries, SendIn, SendLeft, SendSays};
 use crate::receive::later_by;
 use crate::record::Outcome;
-use crate::record::VsockConnection;
 use crate::record::is_quiet;
 use crate::record::is_sound_over;
 use crate::record::killed;
@@ -37,60 +36,52 @@ use defs::limits;
 use packet::Decoded;
 use packet::VsockPacketHdr;
 use packet::uapi;
+use rules::SendPlan;
+use rules::VsockConnection;
 use txbuf::TxBuf;
 
-// What a packet's data does, in numbers: all 0 where no data goes.
-pub struct SendPlan {
-    pub goes: bool,
-    pub len: usize,
-    pub written: usize,
-    pub broken: bool,
-}
-
-impl VsockConnection {
-    // Delivers a packet of the guest's. `buf` counts only where it is `present`; what the stream
-    // takes goes to the front of `out`, the rest of the data to the ring in `storage`.
-    pub fn send_pkt(
-        self,
-        hdr: &[u8],
-        present: bool,
-        buf: &[u8],
-        now_ms: u64,
-        storage: &mut [u8],
-        answers: StreamAnswers,
-        out: &mut [u8],
-    ) -> Outcome
-        ensures { λ r. ⌜ SendSays (record { conn = self; store = now (storage .entry); hdr = now (hdr .entry); present = present; buf = now (buf .entry); clock = «now_ms»; answers = answers; out = now (out .entry) }) (record { answer = told (r .answer); conn = r .conn; store = now (storage .exit); out = now (out .exit) }) ⌝ }
-    {
-        let sound = is_sound_over(self, storage.len());
-        let Decoded::Header(pkt) = packet::decode(hdr) else {
-            return Outcome {
-                answer: defs::door(!sound, true, false, false),
-                conn: self,
-            };
+// Delivers a packet of the guest's. `buf` counts only where it is `present`; what the stream
+// takes goes to the front of `out`, the rest of the data to the ring in `storage`.
+pub fn send_pkt(
+    conn: VsockConnection,
+    hdr: &[u8],
+    present: bool,
+    buf: &[u8],
+    now_ms: u64,
+    storage: &mut [u8],
+    answers: StreamAnswers,
+    out: &mut [u8],
+) -> Outcome
+    ensures { λ r. ⌜ SendSays (record { conn = conn; store = now (storage .entry); hdr = now (hdr .entry); present = present; buf = now (buf .entry); clock = «now_ms»; answers = answers; out = now (out .entry) }) (record { answer = told (r .answer); conn = r .conn; store = now (storage .exit); out = now (out .exit) }) ⌝ }
+{
+    let sound = is_sound_over(conn, storage.len());
+    let Decoded::Header(pkt) = packet::decode(hdr) else {
+        return Outcome {
+            answer: defs::door(!sound, true, false, false),
+            conn,
         };
-        let first = answers.first;
-        let plan = plan_send(self, pkt, present, first);
-        let door = door_past_header(sound, pkt, present, buf.len(), now_ms);
-        let answer = defs::lowest(door, late(plan, out.len()));
-        let Answer::Done = answer else {
-            return Outcome { answer, conn: self };
-        };
-        let kills = kills(self, plan);
-        let len = plan.len;
-        let ring = self.tx_buf;
-        let left = carry(
-            ring,
-            &buf[..len],
-            plan.written,
-            plan.goes & !kills,
-            storage,
-            out,
-        );
-        let empty = is_quiet(ring);
-        let conn = rule(heard(self, pkt), empty, pkt, plan, kills, left, now_ms);
-        Outcome { answer, conn }
-    }
+    };
+    let first = answers.first;
+    let plan = plan_send(conn, pkt, present, first);
+    let door = door_past_header(sound, pkt, present, buf.len(), now_ms);
+    let answer = defs::lowest(door, late(plan, out.len()));
+    let Answer::Done = answer else {
+        return Outcome { answer, conn };
+    };
+    let kills = kills(conn, plan);
+    let len = plan.len;
+    let ring = conn.tx_buf;
+    let left = carry(
+        ring,
+        &buf[..len],
+        plan.written,
+        plan.goes & !kills,
+        storage,
+        out,
+    );
+    let empty = is_quiet(ring);
+    let conn = rule(heard(conn, pkt), empty, pkt, plan, kills, left, now_ms);
+    Outcome { answer, conn }
 }
 
 // ---- what is decided

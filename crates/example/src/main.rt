@@ -17,11 +17,12 @@ fn main() {
         request_timeout: 2000,
         shutdown_timeout: 2000,
     };
-    let opening = VsockConnection::new_peer_init(16, settings, 2, 3, 1024, 5000, 4096);
+    let opening = connection::new_peer_init(16, settings, 2, 3, 1024, 5000, 4096);
     let conn = confirmed(opening.conn);
     let mut hdr = [0u8; 44];
     data_packet(8, &mut hdr);
-    let sent = conn.send_pkt(
+    let sent = connection::send_pkt(
+        conn,
         &hdr,
         true,
         b"8.42 g\r\n",
@@ -31,7 +32,7 @@ fn main() {
         &mut now,
     );
     let held = sent.conn;
-    let flushed = held.notify(false, true, &storage, takes(3), &mut later);
+    let flushed = connection::notify(held, false, true, &storage, takes(3), &mut later);
     io::write_all(1, &now);
     io::write_all(1, &later);
     io::print_decimal(1, flushed.conn.fwd_cnt as u64);
@@ -42,7 +43,15 @@ fn main() {
 fn confirmed(conn: VsockConnection) -> VsockConnection {
     let mut hdr = [0u8; 44];
     let mut none = [0u8; 0];
-    let said = conn.recv_pkt(&mut hdr, false, &mut none, 0, ReadAnswer::WouldBlock, b"");
+    let said = connection::recv_pkt(
+        conn,
+        &mut hdr,
+        false,
+        &mut none,
+        0,
+        ReadAnswer::WouldBlock,
+        b"",
+    );
     let next = said.conn;
     next
 }

@@ -5,14 +5,14 @@ use Rattle.defs.specs.Reading.{Hold}
 use Rattle.defs.specs.Edges.{readingE as ruleE, readingH as formulaH}
 use Rattle.packet.specs.Edges.{readingA as bytesOfA}
 use Rattle.txbuf.specs.Edges.{readingBCD as ringBCD, readingF as ringF}
-use Rattle.connection.specs.Edges.{readingA, readingBCD, readingE, readingF, readingG, readingH, readingI}
+use Rattle.rules.specs.Edges.{readingA, readingBCD, readingE, readingF, readingG, readingH, readingI}
 use Rattle.muxer_killq.specs.Edges.{readingI as popI}
 use Rattle.muxer_rxq.specs.Edges.{readingJ}
 use Rattle.defs.proofs.Readings.{hold-append}
 use Rattle.defs.proofs.Promises.{edges-hold as defs-edges}
 use Rattle.packet.proofs.Promises.{edges-hold as packet-edges}
 use Rattle.txbuf.proofs.Promises.{edges-hold as txbuf-edges}
-use Rattle.connection.proofs.Promises.{edges-hold as connection-edges}
+use Rattle.rules.proofs.Promises.{edges-hold as connection-edges}
 use Rattle.muxer_killq.proofs.Promises.{edges-hold as killq-edges}
 use Rattle.muxer_rxq.proofs.Promises.{edges-hold as rxq-edges}
 use Rattle.readings.specs.Readings.{parts, whole, queues, readings, NoneLeftOut, ReadingsHold}

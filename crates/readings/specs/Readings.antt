@@ -8,7 +8,7 @@ use Rattle.defs.specs.Reading.{Reading, Hold}
 use Rattle.defs.specs.Edges.{readingE as ruleE, readingH as formulaH}
 use Rattle.packet.specs.Edges.{readingA as bytesOfA}
 use Rattle.txbuf.specs.Edges.{readingBCD as ringBCD, readingF as ringF}
-use Rattle.connection.specs.Edges.{readingA, readingBCD, readingE, readingF, readingG, readingH, readingI}
+use Rattle.rules.specs.Edges.{readingA, readingBCD, readingE, readingF, readingG, readingH, readingI}
 use Rattle.muxer_killq.specs.Edges.{readingI as popI}
 use Rattle.muxer_rxq.specs.Edges.{readingJ}
 

@@ -18,9 +18,9 @@ fn send(head: &[u8], storage: &[u8], hdr: &[u8], buf: &[u8]) {
     let conn = conn_of(head);
     let present = frame::yes_at(head, 9);
     let clock = frame::u64_at(head, 96);
-    let door = conn.send_door(hdr, present, buf, clock, storage);
-    let writes = conn.send_writes(hdr, present, buf, clock, storage);
-    let offered = conn.send_offered(hdr, present, buf, clock, storage);
+    let door = connection::send_door(conn, hdr, present, buf, clock, storage);
+    let writes = connection::send_writes(conn, hdr, present, buf, clock, storage);
+    let offered = connection::send_offered(conn, hdr, present, buf, clock, storage);
     let mut reply = frame::reply_to(head, door);
     frame::put_yes(&mut reply, 9, writes);
     frame::write(&mut reply, b"", b"", b"", offered, b"");
@@ -30,8 +30,8 @@ fn recv(head: &[u8], hdr: &[u8], buf: &[u8]) {
     let conn = conn_of(head);
     let present = frame::yes_at(head, 9);
     let clock = frame::u64_at(head, 96);
-    let door = conn.recv_door(hdr, present, buf, clock);
-    let asked = conn.recv_asked(hdr, present, buf, clock);
+    let door = connection::recv_door(conn, hdr, present, buf, clock);
+    let asked = connection::recv_asked(conn, hdr, present, buf, clock);
     let mut reply = frame::reply_to(head, door);
     frame::put_yes(&mut reply, 9, asked.reads);
     frame::put_u64(&mut reply, 104, asked.count as u64);
@@ -41,17 +41,17 @@ fn recv(head: &[u8], hdr: &[u8], buf: &[u8]) {
 fn notify(head: &[u8], storage: &[u8]) {
     let conn = conn_of(head);
     let writable = frame::yes_at(head, 11);
-    let door = conn.notify_door(storage);
-    let first = conn.notify_offered(writable, storage);
-    let next = conn.notify_offered_next(writable, storage);
+    let door = connection::notify_door(conn, storage);
+    let first = connection::notify_offered(conn, writable, storage);
+    let next = connection::notify_offered_next(conn, writable, storage);
     let mut reply = frame::reply_to(head, door);
     frame::write(&mut reply, b"", b"", b"", first, next);
 }
 
 fn raw(head: &[u8], bytes: &[u8]) {
     let conn = conn_of(head);
-    let door = conn.raw_door(bytes);
-    let offered = conn.raw_offered(bytes);
+    let door = connection::raw_door(conn, bytes);
+    let offered = connection::raw_offered(conn, bytes);
     let mut reply = frame::reply_to(head, door);
     frame::write(&mut reply, b"", b"", b"", offered, b"");
 }

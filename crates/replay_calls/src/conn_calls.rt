@@ -79,7 +79,7 @@ fn write(
 
 fn new_peer_init(head: &[u8], storage: &[u8], out: &[u8]) {
     let ring = ring_calls::ring_of(head);
-    let opened = VsockConnection::new_peer_init(
+    let opened = connection::new_peer_init(
         ring.size,
         settings_of(head),
         frame::u64_at(head, 72),
@@ -95,7 +95,7 @@ fn new_peer_init(head: &[u8], storage: &[u8], out: &[u8]) {
 
 fn new_local_init(head: &[u8], storage: &[u8], out: &[u8]) {
     let ring = ring_calls::ring_of(head);
-    let opened = VsockConnection::new_local_init(
+    let opened = connection::new_local_init(
         ring.size,
         settings_of(head),
         frame::u64_at(head, 72),
@@ -111,7 +111,16 @@ fn new_local_init(head: &[u8], storage: &[u8], out: &[u8]) {
 fn send_pkt(head: &[u8], storage: &mut [u8], hdr: &[u8], buf: &[u8], out: &mut [u8]) {
     let present = frame::yes_at(head, 9);
     let clock = frame::u64_at(head, 96);
-    let sent = conn_of(head).send_pkt(hdr, present, buf, clock, storage, answers_of(head), out);
+    let sent = connection::send_pkt(
+        conn_of(head),
+        hdr,
+        present,
+        buf,
+        clock,
+        storage,
+        answers_of(head),
+        out,
+    );
     let answer = sent.answer;
     let conn = sent.conn;
     write(head, answer, 0, conn, storage, hdr, buf, out);
@@ -121,7 +130,7 @@ fn recv_pkt(head: &[u8], storage: &[u8], hdr: &mut [u8], buf: &mut [u8], bytes: 
     let present = frame::yes_at(head, 9);
     let clock = frame::u64_at(head, 96);
     let read = read_answer(frame::first_answer(head));
-    let got = conn_of(head).recv_pkt(hdr, present, buf, clock, read, bytes);
+    let got = connection::recv_pkt(conn_of(head), hdr, present, buf, clock, read, bytes);
     let answer = got.answer;
     let conn = got.conn;
     write(head, answer, 0, conn, storage, hdr, buf, b"");
@@ -130,7 +139,14 @@ fn recv_pkt(head: &[u8], storage: &[u8], hdr: &mut [u8], buf: &mut [u8], bytes: 
 fn notify(head: &[u8], storage: &[u8], out: &mut [u8]) {
     let readable = frame::yes_at(head, 10);
     let writable = frame::yes_at(head, 11);
-    let told = conn_of(head).notify(readable, writable, storage, answers_of(head), out);
+    let told = connection::notify(
+        conn_of(head),
+        readable,
+        writable,
+        storage,
+        answers_of(head),
+        out,
+    );
     let answer = told.answer;
     let conn = told.conn;
     write(head, answer, 0, conn, storage, b"", b"", out);
@@ -138,7 +154,7 @@ fn notify(head: &[u8], storage: &[u8], out: &mut [u8]) {
 
 fn send_bytes_raw(head: &[u8], storage: &[u8], bytes: &[u8], out: &mut [u8]) {
     let conn = conn_of(head);
-    let sent = conn.send_bytes_raw(bytes, answers_of(head), out);
+    let sent = connection::send_bytes_raw(conn, bytes, answers_of(head), out);
     let answer = sent.answer;
     write(
         head,
@@ -153,7 +169,7 @@ fn send_bytes_raw(head: &[u8], storage: &[u8], bytes: &[u8], out: &mut [u8]) {
 }
 
 fn kill(head: &[u8], storage: &[u8]) {
-    let killed = conn_of(head).kill();
+    let killed = connection::kill(conn_of(head));
     let answer = killed.answer;
     let conn = killed.conn;
     write(head, answer, 0, conn, storage, b"", b"", b"");
@@ -167,14 +183,14 @@ fn seen(head: &[u8], answer: Answer, value: u8, conn: VsockConnection, storage: 
 
 fn has_pending_rx(head: &[u8], storage: &[u8]) {
     let conn = conn_of(head);
-    let flag = conn.has_pending_rx();
+    let flag = connection::has_pending_rx(conn);
     let answer = flag.answer;
     seen(head, answer, bit(flag.holds, 1), conn, storage);
 }
 
 fn get_polled_evset(head: &[u8], storage: &[u8]) {
     let conn = conn_of(head);
-    let events = conn.get_polled_evset();
+    let events = connection::get_polled_evset(conn);
     let answer = events.answer;
     let value = bit(events.readable, 1) | bit(events.writable, 2);
     seen(head, answer, value, conn, storage);
@@ -182,21 +198,21 @@ fn get_polled_evset(head: &[u8], storage: &[u8]) {
 
 fn will_expire(head: &[u8], storage: &[u8]) {
     let conn = conn_of(head);
-    let flag = conn.will_expire(frame::u64_at(head, 96));
+    let flag = connection::will_expire(conn, frame::u64_at(head, 96));
     let answer = flag.answer;
     seen(head, answer, bit(flag.holds, 1), conn, storage);
 }
 
 fn has_expired(head: &[u8], storage: &[u8]) {
     let conn = conn_of(head);
-    let flag = conn.has_expired(frame::u64_at(head, 96));
+    let flag = connection::has_expired(conn, frame::u64_at(head, 96));
     let answer = flag.answer;
     seen(head, answer, bit(flag.holds, 1), conn, storage);
 }
 
 // The reply has what `expiry` says in place of the record.
 fn expiry(head: &[u8], storage: &[u8]) {
-    let told = conn_of(head).expiry();
+    let told = connection::expiry(conn_of(head));
     let answer = told.answer;
     let timer = told.expiry;
     let mut reply = frame::reply_to(head, answer);
@@ -205,7 +221,7 @@ fn expiry(head: &[u8], storage: &[u8]) {
 }
 
 fn state(head: &[u8], storage: &[u8]) {
-    let told = conn_of(head).state();
+    let told = connection::state(conn_of(head));
     let answer = told.answer;
     let state = told.state;
     let mut reply = frame::reply_to(head, answer);

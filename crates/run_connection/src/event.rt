@@ -31,8 +31,8 @@ pub fn timers() {
 
 fn expiry(conn: VsockConnection, now_ms: u64) {
     named(b"expiry at", now_ms);
-    let will = conn.will_expire(now_ms);
-    let has = conn.has_expired(now_ms);
+    let will = connection::will_expire(conn, now_ms);
+    let has = connection::has_expired(conn, now_ms);
     let answer = will.answer;
     show::answered(answer);
     say(b" will");
@@ -83,5 +83,5 @@ fn flushed(
     room: usize,
 ) -> Outcome {
     let o = text::fitting(room, out);
-    conn.notify(true, true, storage, answers, &mut out[..o])
+    connection::notify(conn, true, true, storage, answers, &mut out[..o])
 }

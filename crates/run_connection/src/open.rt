@@ -63,11 +63,11 @@ fn open(size: u32, threshold: u32, request: u64, shutdown: u64) {
     number(threshold as u64);
     number(request);
     number(shutdown);
-    let guest = VsockConnection::new_peer_init(size, settings, 2, 3, 1024, 5000, 100);
+    let guest = connection::new_peer_init(size, settings, 2, 3, 1024, 5000, 100);
     let told = guest.answer;
     let conn = guest.conn;
     opened(told, conn);
-    let host = VsockConnection::new_local_init(size, settings, 2, 3, 1024, 5000);
+    let host = connection::new_local_init(size, settings, 2, 3, 1024, 5000);
     let said = host.answer;
     let other = host.conn;
     opened(said, other);

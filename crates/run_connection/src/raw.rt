@@ -45,5 +45,5 @@ fn send(buf: &[u8], first: StreamAnswer, room: usize) {
 
 fn sent_into(buf: &[u8], answers: StreamAnswers, out: &mut [u8], room: usize) -> RawSent {
     let o = text::fitting(room, out);
-    established().send_bytes_raw(buf, answers, &mut out[..o])
+    connection::send_bytes_raw(established(), buf, answers, &mut out[..o])
 }

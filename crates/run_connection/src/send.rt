@@ -83,7 +83,8 @@ fn delivered(
     };
     let t = text::fitting(s.storage, storage);
     let o = text::fitting(s.room, out);
-    let after = conn.send_pkt(
+    let after = connection::send_pkt(
+        conn,
         front(&hdr, s.hdr),
         s.present,
         front(&buf, s.buf),

@@ -62,7 +62,8 @@ fn spoken(
     let read = [7u8; 20];
     let h = text::fitting(t.hdr, hdr);
     let b = text::fitting(t.buf, buf);
-    let after = conn.recv_pkt(
+    let after = connection::recv_pkt(
+        conn,
         &mut hdr[..h],
         t.present,
         &mut buf[..b],

@@ -80,14 +80,20 @@ pub fn reading_f() {
     let mut conn = established(100);
     conn.tx_buf.head = 20;
     conn.tx_buf.tail = 12;
-    say_piece(b"f pieces ", conn.notify_offered(true, &storage));
-    say_piece(b" and ", conn.notify_offered_next(true, &storage));
+    say_piece(
+        b"f pieces ",
+        connection::notify_offered(conn, true, &storage),
+    );
+    say_piece(
+        b" and ",
+        connection::notify_offered_next(conn, true, &storage),
+    );
     let answers = StreamAnswers {
         first: StreamAnswer::Count(4),
         second: StreamAnswer::Failed,
     };
     let mut out = [0u8; SIZE as usize];
-    let after = conn.notify(false, true, &storage, answers, &mut out);
+    let after = connection::notify(conn, false, true, &storage, answers, &mut out);
     let next = after.conn;
     named(b", count", next.fwd_cnt as u64);
     named(b", tail", next.tx_buf.tail as u64);
@@ -123,7 +129,7 @@ fn seen(conn: VsockConnection) -> VsockConnection {
         second: StreamAnswer::WouldBlock,
     };
     let mut out = [0u8; 1];
-    let after = conn.notify(true, false, &storage, answers, &mut out);
+    let after = connection::notify(conn, true, false, &storage, answers, &mut out);
     let next = after.conn;
     next
 }

@@ -39,7 +39,7 @@ fn say_timer(conn: VsockConnection) {
 // Killed in PeerInit, then two turns to speak.
 pub fn reading_l() {
     let mut hdr = [0u8; VSOCK_PKT_HDR_SIZE];
-    let killed = opened(100).kill();
+    let killed = connection::kill(opened(100));
     let conn = killed.conn;
     let first = turn(conn, &mut hdr, false, ReadAnswer::WouldBlock);
     say(b"l");

@@ -15,9 +15,9 @@ use text::yes;
 // A kill time of 500: expired, by a connection's timer, and popped, by the kill queue.
 pub fn reading_i() {
     say(b"i expired at 499");
-    yes(timed(500).has_expired(499).holds);
+    yes(connection::has_expired(timed(500), 499).holds);
     say(b", at 500");
-    yes(timed(500).has_expired(500).holds);
+    yes(connection::has_expired(timed(500), 500).holds);
     let made = MuxerKillQ::new(2);
     let queue = made.queue;
     let pushed = queue.push(

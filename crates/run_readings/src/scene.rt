@@ -26,7 +26,7 @@ pub fn opened(alloc: u32) -> VsockConnection {
         request_timeout: TIMEOUT,
         shutdown_timeout: TIMEOUT,
     };
-    let opening = VsockConnection::new_peer_init(SIZE, settings, 2, 3, 1024, 5000, alloc);
+    let opening = connection::new_peer_init(SIZE, settings, 2, 3, 1024, 5000, alloc);
     let conn = opening.conn;
     conn
 }
@@ -39,7 +39,7 @@ pub fn turn(
     answer: ReadAnswer,
 ) -> VsockConnection {
     let mut buf = [0u8; 1];
-    let got = conn.recv_pkt(hdr, present, &mut buf[..0], 0, answer, b"");
+    let got = connection::recv_pkt(conn, hdr, present, &mut buf[..0], 0, answer, b"");
     let next = got.conn;
     next
 }
@@ -78,7 +78,8 @@ pub fn sent(
         second: StreamAnswer::WouldBlock,
     };
     let mut out = [0u8; 17];
-    let after = conn.send_pkt(
+    let after = connection::send_pkt(
+        conn,
         &bytes,
         true,
         b"0123456789abcdefg",

@@ -1,5 +1,5 @@
 use mathlib.Core.Path.{refl}
-use Rattle.connection.specs.Open.{freshOf}
+use Rattle.rules.specs.Open.{freshOf}
 use Rattle.connection.proofs.open.fresh.Statement.{statement}
 use Rattle.connection.proofs.open.fresh.Tie as tie
 

@@ -1,5 +1,5 @@
 use borrow.Author.Needs.{needs}
-use Rattle.connection.specs.Open.{openAnswer}
+use Rattle.rules.specs.Open.{openAnswer}
 use Rattle.connection.proofs.open.open_answer.Statement.{statement}
 use Rattle.connection.proofs.open.open_answer.Tie as tie
 

@@ -1,5 +1,5 @@
 use borrow.Author.Needs.{needs}
-use Rattle.connection.specs.Open.{zeroConn}
+use Rattle.rules.specs.Open.{zeroConn}
 use Rattle.connection.proofs.open.zero.Statement.{statement}
 use Rattle.connection.proofs.open.zero.Tie as tie
 

@@ -1,6 +1,6 @@
 use borrow.Author.Needs.{needs}
 use mathlib.Core.Path.{refl}
-use Rattle.connection.specs.Receive.{headerOf}
+use Rattle.rules.specs.Receive.{headerOf}
 use Rattle.connection.proofs.receive.header.Statement.{statement}
 use Rattle.connection.proofs.receive.header.Tie as tie
 

@@ -1,5 +1,5 @@
 use borrow.Author.Needs.{needs}
-use Rattle.connection.specs.Receive.{receivedOf}
+use Rattle.rules.specs.Receive.{receivedOf}
 use Rattle.connection.proofs.receive.received.Statement.{statement}
 use Rattle.connection.proofs.receive.received.Tie as tie
 

@@ -1,6 +1,6 @@
 use borrow.Author.Needs.{needs}
-use Rattle.connection.specs.Record.{withState}
-use Rattle.connection.specs.Receive.{spokenOf}
+use Rattle.rules.specs.Record.{withState}
+use Rattle.rules.specs.Receive.{spokenOf}
 use Rattle.connection.proofs.receive.spoken.Statement.{statement}
 use Rattle.connection.proofs.receive.spoken.Tie as tie
 

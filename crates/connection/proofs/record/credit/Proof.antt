@@ -1,5 +1,5 @@
 use borrow.Author.Needs.{needs}
-use Rattle.connection.specs.Record.{creditOf}
+use Rattle.rules.specs.Record.{creditOf}
 use Rattle.connection.proofs.record.credit.Statement.{statement}
 use Rattle.connection.proofs.record.credit.Tie as tie
 

@@ -1,5 +1,5 @@
 use borrow.Author.Needs.{needs}
-use Rattle.connection.specs.Record.{quiet}
+use Rattle.rules.specs.Record.{quiet}
 use Rattle.connection.proofs.record.is_quiet.Statement.{statement}
 use Rattle.connection.proofs.record.is_quiet.Tie as tie
 

@@ -1,5 +1,5 @@
 use borrow.Author.Needs.{needs}
-use Rattle.connection.specs.Record.{soundConn}
+use Rattle.rules.specs.Record.{soundConn}
 use Rattle.connection.proofs.record.is_sound.Statement.{statement}
 use Rattle.connection.proofs.record.is_sound.Tie as tie
 

@@ -1,5 +1,5 @@
 use borrow.Author.Needs.{needs}
-use Rattle.connection.specs.Record.{soundOver}
+use Rattle.rules.specs.Record.{soundOver}
 use Rattle.connection.proofs.record.is_sound_over.Statement.{statement}
 use Rattle.connection.proofs.record.is_sound_over.Tie as tie
 

@@ -1,5 +1,5 @@
 use borrow.Author.Needs.{needs}
-use Rattle.connection.specs.Record.{killedOf}
+use Rattle.rules.specs.Record.{killedOf}
 use Rattle.connection.proofs.record.killed.Statement.{statement}
 use Rattle.connection.proofs.record.killed.Tie as tie
 

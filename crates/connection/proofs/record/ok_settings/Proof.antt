@@ -1,5 +1,5 @@
 use borrow.Author.Needs.{needs}
-use Rattle.connection.specs.Record.{okSettings}
+use Rattle.rules.specs.Record.{okSettings}
 use Rattle.connection.proofs.record.ok_settings.Statement.{statement}
 use Rattle.connection.proofs.record.ok_settings.Tie as tie
 

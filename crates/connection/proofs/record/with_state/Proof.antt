@@ -1,5 +1,5 @@
 use mathlib.Core.Path.{refl}
-use Rattle.connection.specs.Record.{withState}
+use Rattle.rules.specs.Record.{withState}
 use Rattle.connection.proofs.record.with_state.Statement.{statement}
 use Rattle.connection.proofs.record.with_state.Tie as tie
 

@@ -1,5 +1,5 @@
 use borrow.Author.Needs.{needs}
-use Rattle.connection.specs.Send.{sendDoorOf}
+use Rattle.rules.specs.Send.{sendDoorOf}
 use Rattle.connection.proofs.send.door_past_header.Statement.{statement}
 use Rattle.connection.proofs.send.door_past_header.Tie as tie
 

@@ -1,5 +1,5 @@
 use borrow.Author.Needs.{needs}
-use Rattle.connection.specs.Send.{goesOf}
+use Rattle.rules.specs.Send.{goesOf}
 use Rattle.connection.proofs.send.goes.Statement.{statement}
 use Rattle.connection.proofs.send.goes.Tie as tie
 

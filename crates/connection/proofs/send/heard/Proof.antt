@@ -1,5 +1,5 @@
 use mathlib.Core.Path.{refl}
-use Rattle.connection.specs.Send.{heardOf}
+use Rattle.rules.specs.Send.{heardOf}
 use Rattle.connection.proofs.send.heard.Statement.{statement}
 use Rattle.connection.proofs.send.heard.Tie as tie
 

@@ -1,5 +1,5 @@
 use borrow.Author.Needs.{needs}
-use Rattle.connection.specs.Send.{killsOf}
+use Rattle.rules.specs.Send.{killsOf}
 use Rattle.connection.proofs.send.kills.Statement.{statement}
 use Rattle.connection.proofs.send.kills.Tie as tie
 

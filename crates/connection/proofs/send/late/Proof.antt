@@ -1,5 +1,5 @@
 use borrow.Author.Needs.{needs}
-use Rattle.connection.specs.Send.{sendLate}
+use Rattle.rules.specs.Send.{sendLate}
 use Rattle.connection.proofs.send.late.Statement.{statement}
 use Rattle.connection.proofs.send.late.Tie as tie
 

@@ -1,5 +1,5 @@
 use borrow.Author.Needs.{needs}
-use Rattle.connection.specs.Send.{movedOf}
+use Rattle.rules.specs.Send.{movedOf}
 use Rattle.connection.proofs.send.moved.Statement.{statement}
 use Rattle.connection.proofs.send.moved.Tie as tie
 

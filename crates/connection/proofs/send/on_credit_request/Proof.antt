@@ -1,5 +1,5 @@
 use borrow.Author.Needs.{needs}
-use Rattle.connection.specs.Send.{onCreditRequest}
+use Rattle.rules.specs.Send.{onCreditRequest}
 use Rattle.connection.proofs.send.on_credit_request.Statement.{statement}
 use Rattle.connection.proofs.send.on_credit_request.Tie as tie
 

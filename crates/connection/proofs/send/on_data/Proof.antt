@@ -1,8 +1,8 @@
 use borrow.Author.Needs.{needs}
 use mathlib.Core.Path.{sym, ap, _∙_}
 use Rattle.defs.proofs.ChoiceLaws.{when-true, when-false}
-use Rattle.connection.specs.Send.{onData, updatedOf}
-use Rattle.connection.specs.Record.{killedOf}
+use Rattle.rules.specs.Send.{onData, updatedOf}
+use Rattle.rules.specs.Record.{killedOf}
 use Rattle.connection.proofs.send.on_data.Statement.{statement}
 use Rattle.connection.proofs.send.on_data.Tie as tie
 

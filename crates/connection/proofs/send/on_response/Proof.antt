@@ -1,7 +1,7 @@
 use borrow.Author.Needs.{needs}
 use mathlib.Core.Path.{sym, _∙_}
 use Rattle.defs.proofs.ChoiceLaws.{when-true, when-false}
-use Rattle.connection.specs.Send.{onResponse}
+use Rattle.rules.specs.Send.{onResponse}
 use Rattle.connection.proofs.send.on_response.Statement.{statement}
 use Rattle.connection.proofs.send.on_response.Tie as tie
 

@@ -1,5 +1,5 @@
 use borrow.Author.Needs.{needs}
-use Rattle.connection.specs.Send.{onShutdown}
+use Rattle.rules.specs.Send.{onShutdown}
 use Rattle.connection.proofs.send.on_shutdown.Statement.{statement}
 use Rattle.connection.proofs.send.on_shutdown.Tie as tie
 

@@ -2,7 +2,7 @@ use borrow.Author.Needs.{needs}
 use mathlib.Core.Logic.{⊎-elim}
 use borrow.Author.Tests.{ne-eqb}
 use Rattle.defs.specs.Choice.{when}
-use Rattle.connection.specs.Send.{ruleOf}
+use Rattle.rules.specs.Send.{ruleOf}
 use Rattle.connection.proofs.send.rule.Statement.{statement}
 use Rattle.connection.proofs.send.rule.Tie as tie
 

@@ -1,5 +1,5 @@
 use borrow.Author.Needs.{needs}
-use Rattle.connection.specs.Send.{updatedOf}
+use Rattle.rules.specs.Send.{updatedOf}
 use Rattle.connection.proofs.send.updated.Statement.{statement}
 use Rattle.connection.proofs.send.updated.Tie as tie
 

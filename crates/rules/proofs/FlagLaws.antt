@@ -1,0 +1,242 @@
+-- The flags of PeerClosed only grow over a run. A RESPONSE, which opens a connection, is pending only in PeerInit or once killed, and that is
+-- what a run keeps. Assumes nothing.
+use Prim.Native.Nat.{ℕ}
+use mathlib.Core.Path.{_≡_, refl, sym, ap, subst, _∙_}
+use mathlib.Core.Logic.{_⊎_, inl, inr, ⊎-elim}
+use mathlib.Core.Bool.{Bool, true, false, _&&_}
+use mathlib.Core.List.{List}
+use lib.Dec.{eqb}
+use Rattle.defs.specs.Choice.{when}
+use Rattle.defs.specs.Answer.{isDone, whenDone}
+use Rattle.defs.specs.Stream.{failed}
+use Rattle.defs.proofs.Basics.{never, both, true-or-false}
+use Rattle.defs.proofs.ChoiceLaws.{when-holds}
+use Rattle.packet.specs.Uapi.{opResponse, opShutdown, opRw, opCreditRequest}
+use Rattle.packet.specs.declared.hdr.VsockPacketHdr.{VsockPacketHdr}
+use Rattle.runs.specs.Promises.{Keeps}
+use Rattle.runs.proofs.Promises as any
+use Rattle.txbuf.specs.declared.record.TxBuf.{TxBuf}
+use Rattle.csm.specs.State.{isLocalInit, shutBy, bothOff, recvOff, sendOff, Grown, grown, closed, dead}
+use Rattle.csm.specs.Row.{afterwards}
+use Rattle.csm.specs.declared.row.After.{After}
+use Rattle.csm.specs.declared.row.After.the-variants.{Same, Closes}
+use Rattle.csm.specs.declared.pending.PendingRxSet.{PendingRxSet}
+use Rattle.csm.specs.declared.state.ConnState.{ConnState}
+use Rattle.csm.specs.declared.state.ConnState.the-variants.{LocalInit, PeerInit, Established, LocalClosed, PeerClosed, Killed}
+use Rattle.csm.proofs.Promises.{shut-only-grows}
+use Rattle.csm.proofs.TurnLaws.{NotOpening, same-state, closes-state, reset-stays, response-alone-opens}
+use Rattle.rules.specs.Record.{quiet, creditOf, withState, killedOf}
+use Rattle.rules.specs.Open.{Opening, ConnLeft, freshOf, zeroConn, openAnswer, peerInitOf, localInitOf}
+use Rattle.rules.specs.Look.{lookAnswer, killOf}
+use Rattle.rules.specs.Receive.{spokenOf, receivedOf, RecvIn, RecvLeft, refusalOf, saidBy, recvDone, recvKept, recvOf}
+use Rattle.rules.specs.Send.{SendLeft, heardOf, movedOf, updatedOf, onResponse, onShutdown, onCreditRequest, onData, ruleOf, SendIn, pktOf, sendPlan, sendAnswer, sendKills, sendCarried, sendDone, sendKept, sendOf}
+use Rattle.rules.specs.Notify.{NotifyLeft, seenOf, settledOf, drainedOf, NotifyIn, due, flushed, notifyAnswer, notifyDone, notifyKept, notifyOf}
+use Rattle.rules.specs.Runs.{Event, sends, receives, notifies, kills, looks, after, Made, connections, Opens, FlagsOnlyGrow}
+use Rattle.rules.specs.declared.record.VsockConnection.{VsockConnection}
+use Rattle.rules.specs.declared.plan.SendPlan.{SendPlan}
+
+-- ---- what may follow a state
+
+data Follows (s : ConnState) : ConnState → Type 0 where
+  stays : Follows s s
+  dies : Follows s Killed
+  opens : isLocalInit s ≡ true → Follows s Established
+  shuts : (a b : Bool) → Follows s (shutBy s a b)
+
+grows : (r q : Bool) (s d : ConnState) → Follows s d → s ≡ PeerClosed r q → Grown r q d
+grows r q s d stays e = rw e (grown r q (λ x. x) (λ x. x))
+grows r q s d dies e = dead
+grows r q s d (opens t) e = absurd (never (sym (ap isLocalInit e) ∙ t))
+grows r q s d (shuts a b) e = rw e (shut-only-grows r q a b)
+
+-- where a RESPONSE may be pending
+abbrev Early : ConnState → Type 0
+Early s = (s ≡ PeerInit) ⊎ (s ≡ Killed)
+
+early-on : (s d : ConnState) → Follows s d → Early s → Early d
+early-on s d stays e = e
+early-on s d dies e = inr refl
+early-on s d (opens t) e = ⊎-elim (λ (x : s ≡ PeerInit). absurd (never (sym (ap isLocalInit x) ∙ t))) (λ (x : s ≡ Killed). absurd (never (sym (ap isLocalInit x) ∙ t))) e
+early-on s d (shuts a b) e = ⊎-elim (λ (x : s ≡ PeerInit). inl (ap (λ (y : ConnState). shutBy y a b) x)) (λ (x : s ≡ Killed). inr (ap (λ (y : ConnState). shutBy y a b) x)) e
+
+-- one record follows another: the state does, and no RESPONSE has become pending
+record Next (c d : VsockConnection) : Type 0 where
+  response : d .«pending_rx» .response ≡ c .«pending_rx» .response
+  state : Follows (c .state) (d .state)
+
+same : (c : VsockConnection) → Next c c
+same c = record { response = refl; state = stays }
+
+choose : (c x y : VsockConnection) (b : Bool) → (b ≡ true → Next c x) → Next c y → Next c (when b x y)
+choose c x y b p q = when-holds (Next c) b x y p (λ t. q)
+
+-- ---- packets
+
+after-move : (c : VsockConnection) (ring : TxBuf) (n : ℕ) → Next c (movedOf c ring n)
+unfolding movedOf
+after-move c ring n = record { response = refl; state = stays }
+
+killed-moved : (c : VsockConnection) (ring : TxBuf) (n : ℕ) → Next c (killedOf (movedOf c ring n))
+unfolding movedOf killedOf withState
+killed-moved c ring n = record { response = refl; state = dies }
+
+updated-moved : (c : VsockConnection) (ring : TxBuf) (n : ℕ) → Next c (updatedOf (movedOf c ring n))
+unfolding movedOf updatedOf withState
+updated-moved c ring n = record { response = refl; state = stays }
+
+by-data : (c : VsockConnection) (p : SendPlan) (breaks : Bool) (ring : TxBuf) → Next c (onData c p breaks ring)
+unfolding onData
+by-data c p breaks ring = choose c _ _ (p .goes) (λ t. choose c _ _ breaks (λ k. killed-moved c ring (p .written)) (updated-moved c ring (p .written))) (same c)
+
+by-response : (c : VsockConnection) → Next c (onResponse c)
+unfolding onResponse withState
+by-response c = choose c _ _ (isLocalInit (c .state)) (λ t. record { response = refl; state = opens t }) (same c)
+
+by-shutdown : (c : VsockConnection) (empty : Bool) (flags clock : ℕ) → Next c (onShutdown c empty flags clock)
+unfolding onShutdown withState
+by-shutdown c empty flags clock = record { response = refl; state = shuts (recvOff flags) (sendOff flags) }
+
+by-request : (c : VsockConnection) → Next c (onCreditRequest c)
+unfolding onCreditRequest withState
+by-request c = record { response = refl; state = stays }
+
+by-rule : (c : VsockConnection) (empty : Bool) (pkt : VsockPacketHdr) (p : SendPlan) (breaks : Bool) (ring : TxBuf) (clock : ℕ) → Next c (ruleOf c empty pkt p breaks ring clock)
+unfolding ruleOf
+by-rule c empty pkt p breaks ring clock =
+    choose c _ _ (eqb (pkt .op) opResponse) (λ t. by-response c)
+    (choose c _ _ (eqb (pkt .op) opShutdown) (λ t. by-shutdown c empty (pkt .flags) clock)
+    (choose c _ _ (eqb (pkt .op) opRw) (λ t. by-data c p breaks ring) (choose c _ _ (eqb (pkt .op) opCreditRequest) (λ t. by-request c) (same c))))
+
+heard : (c d : VsockConnection) (pkt : VsockPacketHdr) → Next (heardOf c pkt) d → Next c d
+unfolding heardOf
+heard c d pkt n = record { response = n .response; state = n .state }
+
+by-packet : (i : SendIn) → Next (i .conn) (sendOf i .conn)
+unfolding sendOf sendDone sendKept whenDone
+by-packet i =
+    when-holds (λ (o : SendLeft). Next (i .conn) (o .conn)) (isDone (sendAnswer i)) (sendDone i) (sendKept i)
+    (λ t. heard (i .conn) _ (pktOf i) (by-rule (heardOf (i .conn) (pktOf i)) (quiet (i .conn .«tx_buf»)) (pktOf i) (sendPlan i) (sendKills i) (sendCarried i .ring) (i .clock)))
+    (λ t. same (i .conn))
+
+-- ---- events and kills
+
+seen : (c d : VsockConnection) (readable : Bool) → Next (seenOf c readable) d → Next c d
+unfolding seenOf withState
+seen c d readable n = record { response = n .response; state = n .state }
+
+settled : (c d : VsockConnection) (empty : Bool) → Next c d → Next c (settledOf d empty)
+unfolding settledOf updatedOf withState
+settled c d empty n =
+    choose c _ _ (bothOff (d .state) && empty) (λ t. record { response = n .response; state = n .state }) (record { response = n .response; state = n .state })
+
+by-drain : (c : VsockConnection) (ring : TxBuf) (n : ℕ) (empty fails : Bool) → Next c (drainedOf c ring n empty fails)
+unfolding drainedOf
+by-drain c ring n empty fails = settled c _ empty (choose c _ _ fails (λ t. killed-moved c ring n) (after-move c ring n))
+
+by-event : (i : NotifyIn) → Next (i .conn) (notifyOf i .conn)
+unfolding notifyOf notifyDone notifyKept whenDone
+by-event i =
+    when-holds (λ (o : NotifyLeft). Next (i .conn) (o .conn)) (isDone (notifyAnswer i)) (notifyDone i) (notifyKept i)
+    (λ t.
+    choose (i .conn) _ _ (due i) (λ u. seen (i .conn) _ (i .readable) (by-drain (seenOf (i .conn) (i .readable)) (flushed i .ring) (flushed i .count) (quiet (flushed i .ring)) (failed (i .answers .first))))
+    (seen (i .conn) _ (i .readable) (same _)))
+    (λ t. same (i .conn))
+
+by-kill : (c : VsockConnection) → Next c (killOf c .conn)
+unfolding killOf killedOf withState whenDone
+by-kill c = choose c _ _ (isDone (lookAnswer c)) (λ t. record { response = refl; state = dies }) (same c)
+
+-- ---- what a run keeps
+
+abbrev Fit : VsockConnection → Type 0
+Fit c = c .«pending_rx» .response ≡ true → Early (c .state)
+
+record Turned (c d : VsockConnection) : Type 0 where
+  fits : Fit c → Fit d
+  grow : Fit c → (r q : Bool) → c .state ≡ PeerClosed r q → Grown r q (d .state)
+
+turned : (c d : VsockConnection) → Next c d → Turned c d
+turned c d n = record {
+  fits = λ f e. early-on (c .state) (d .state) (n .state) (f (sym (n .response) ∙ e));
+  grow = λ f r q e. grows r q (c .state) (d .state) (n .state) e;
+}
+
+abbrev isPeerClosed : ConnState → Bool
+isPeerClosed LocalInit = false
+isPeerClosed PeerInit = false
+isPeerClosed Established = false
+isPeerClosed LocalClosed = false
+isPeerClosed (PeerClosed a b) = true
+isPeerClosed Killed = false
+
+not-early : (s : ConnState) (r q : Bool) → s ≡ PeerClosed r q → Early s → ⊥
+not-early s r q e =
+    ⊎-elim
+    (λ (x : s ≡ PeerInit). never (ap isPeerClosed (sym x ∙ e)))
+    (λ (x : s ≡ Killed). never (ap isPeerClosed (sym x ∙ e)))
+
+-- a turn that does not open
+unopened : (x : After) (s d : ConnState) (r q : Bool) → NotOpening x → d ≡ afterwards x s → s ≡ PeerClosed r q → Grown r q d
+unopened Same s d r q same-state e f = grows r q s d (subst (Follows s) (sym e) stays) f
+unopened Closes s d r q closes-state e f = subst (Grown r q) (sym e) closed
+
+by-turn : (c d : VsockConnection) (x : After) (rst : Bool) → d .state ≡ afterwards x (c .state) → d .«pending_rx» .response ≡ c .«pending_rx» .response && rst
+    → (rst ≡ true → x ≡ Same) → (rst ≡ false → c .«pending_rx» .response ≡ false → NotOpening x) → Turned c d
+by-turn c d x rst s p first other = record {
+  fits = λ f e.
+      let b = both (c .«pending_rx» .response) rst (sym p ∙ e) in
+      let z : d .state ≡ c .state = s ∙ ap (λ (y : After). afterwards y (c .state)) (first (b .1)) in
+      rw z (f (b .0));
+  grow = λ f r q e.
+      ⊎-elim
+      (λ (t : rst ≡ true). unopened x (c .state) (d .state) r q (rw (first t) same-state) s e)
+      (λ (t : rst ≡ false).
+      ⊎-elim
+      (λ (u : c .«pending_rx» .response ≡ true). absurd (not-early (c .state) r q e (f u)))
+      (λ (u : c .«pending_rx» .response ≡ false). unopened x (c .state) (d .state) r q (other t u) s e)
+      (true-or-false (c .«pending_rx» .response)))
+      (true-or-false rst);
+}
+
+spoke : (i : RecvIn) → Turned (i .conn) (recvDone i .conn)
+unfolding recvDone receivedOf spokenOf
+spoke i =
+    let c = i .conn in
+    by-turn c (recvDone i .conn) (saidBy i .after) (c .«pending_rx» .rst) refl refl
+    (reset-stays (c .«pending_rx») (c .state) (eqb (creditOf c) 0) (i .present) (i .answer))
+    (response-alone-opens (c .«pending_rx») (c .state) (eqb (creditOf c) 0) (i .present) (i .answer))
+
+by-receive : (i : RecvIn) → Turned (i .conn) (recvOf i .conn)
+unfolding recvOf recvKept whenDone
+by-receive i =
+    when-holds (λ (o : RecvLeft). Turned (i .conn) (o .conn)) (isDone (refusalOf i)) (recvDone i) (recvKept i) (λ t. spoke i) (λ t. turned _ _ (same (i .conn)))
+
+-- ---- every run
+
+by-call : (c : VsockConnection) (store : List ℕ) (e : Event) → Made c store e → Turned c (after e)
+by-call c store (sends i o) m = rw (← (m .0), m .2) (turned _ _ (by-packet i))
+by-call c store (receives i o) m = rw (← (m .0), m .1) (by-receive i)
+by-call c store (notifies i o) m = rw (← (m .0), m .2) (turned _ _ (by-event i))
+by-call c store (kills d o) m = rw (← (m .0), m .1) (turned _ _ (by-kill d))
+by-call c store (looks l) m = rw (m .0) (turned _ _ (same c))
+
+fits : Keeps connections Fit
+fits c store e f m = by-call c store e m .fits f
+
+fresh-fits : (o : Opening) (state : ConnState) (p : PendingRxSet) → (p .response ≡ true → Early state) → Fit (freshOf o state p)
+unfolding freshOf
+fresh-fits o state p f = f
+
+fit-either : (b : Bool) (x y : VsockConnection) → Fit x → Fit y → Fit (when b x y)
+fit-either b x y p q = when-holds Fit b x y (λ t. p) (λ t. q)
+
+opening-fits : (guest : Bool) (o : Opening) (left : ConnLeft) → Opens guest o left → Fit (left .conn)
+unfolding peerInitOf localInitOf zeroConn whenDone
+opening-fits true o left e =
+    rw e (fit-either (isDone (openAnswer (o .size) (o .settings))) _ _ (fresh-fits o PeerInit _ (λ x. inl refl)) (fresh-fits _ LocalInit _ (λ x. absurd (never x))))
+opening-fits false o left e =
+    rw e (fit-either (isDone (openAnswer (o .size) (o .settings))) _ _ (fresh-fits _ LocalInit _ (λ x. absurd (never x))) (fresh-fits _ LocalInit _ (λ x. absurd (never x))))
+
+pub flags-only-grow : FlagsOnlyGrow
+flags-only-grow s t c store r e m =
+    by-call c store e m .grow (any.every-run-keeps connections Fit fits _ _ _ _ _ (opening-fits (s .guest) (s .given) (s .left) (r .opened)) (r .steps))

@@ -1,0 +1,16 @@
+pub mod Edges
+pub mod LookLaws
+pub mod RawLaws
+pub mod RecordLaws
+pub mod ReceiveLaws
+pub mod SendLaws
+pub mod NotifyLaws
+pub mod AnswerLaws
+pub mod OutcomeLaws
+pub mod OfferLaws
+pub mod MovesLaws
+pub mod RunLaws
+pub mod FlagLaws
+pub mod DrainLaws
+pub mod Stories
+pub mod Promises

@@ -1,0 +1,99 @@
+-- The promises of specs/Promises and specs/Answers, Outcomes, Runs and Stories, each by its law. Assumes nothing.
+use Rattle.rules.specs.Promises.{SendMoves, NotifyMoves, SendCountedOff, NotifyCountedOff, NotifyOffersPieces, ReadWithinAsked, ReceiveKeeps, KillKeeps, EdgesHold}
+use Rattle.rules.specs.Answers.{SendAnswers, RecvAnswers, NotifyAnswers, RawAnswers}
+use Rattle.rules.specs.Outcomes.{RefusalsChangeNothing, EverySendHears, EverySendAccepts, UpdateIsDue, EveryTurnLeaves, HeaderTells, SevenAndEightLeave, EveryKillKills, EveryPollPolls, ExpiryMeans}
+use Rattle.rules.specs.Runs.{EveryRunForwards, CutsDoNotMatter, FlagsOnlyGrow, Drains}
+use Rattle.rules.specs.Stories.{StoriesHold}
+use Rattle.rules.proofs.Edges as edges
+use Rattle.rules.proofs.AnswerLaws as answers
+use Rattle.rules.proofs.MovesLaws as moves
+use Rattle.rules.proofs.OutcomeLaws as outcomes
+use Rattle.rules.proofs.RunLaws as forwarding
+use Rattle.rules.proofs.FlagLaws as flags
+use Rattle.rules.proofs.DrainLaws as draining
+use Rattle.rules.proofs.Stories as stories
+use Rattle.rules.proofs.OfferLaws as offers
+
+pub send-answers : SendAnswers
+send-answers = answers.send-answers
+
+pub recv-answers : RecvAnswers
+recv-answers = answers.recv-answers
+
+pub notify-answers : NotifyAnswers
+notify-answers = answers.notify-answers
+
+pub raw-answers : RawAnswers
+raw-answers = answers.raw-answers
+
+pub send-moves : SendMoves
+send-moves = moves.send-moves
+
+pub notify-moves : NotifyMoves
+notify-moves = moves.notify-moves
+
+pub send-counted-off : SendCountedOff
+send-counted-off = offers.send-counted-off
+
+pub notify-counted-off : NotifyCountedOff
+notify-counted-off = offers.notify-counted-off
+
+pub notify-offers-pieces : NotifyOffersPieces
+notify-offers-pieces = offers.notify-offers-pieces
+
+pub read-within-asked : ReadWithinAsked
+read-within-asked = offers.read-within-asked
+
+pub receive-keeps : ReceiveKeeps
+receive-keeps = moves.receive-keeps
+
+pub kill-keeps : KillKeeps
+kill-keeps = moves.kill-keeps
+
+pub refusals-change-nothing : RefusalsChangeNothing
+refusals-change-nothing = outcomes.refusals-change-nothing
+
+pub every-send-hears : EverySendHears
+every-send-hears = outcomes.every-send-hears
+
+pub every-send-accepts : EverySendAccepts
+every-send-accepts = outcomes.every-send-accepts
+
+pub update-is-due : UpdateIsDue
+update-is-due = outcomes.update-is-due
+
+pub every-turn-leaves : EveryTurnLeaves
+every-turn-leaves = outcomes.every-turn-leaves
+
+pub header-tells : HeaderTells
+header-tells = outcomes.header-tells
+
+pub seven-and-eight-leave : SevenAndEightLeave
+seven-and-eight-leave = outcomes.seven-and-eight-leave
+
+pub every-kill-kills : EveryKillKills
+every-kill-kills = outcomes.every-kill-kills
+
+pub every-poll-polls : EveryPollPolls
+every-poll-polls = outcomes.every-poll-polls
+
+pub expiry-means : ExpiryMeans
+expiry-means = outcomes.expiry-means
+
+pub every-run-forwards : EveryRunForwards
+every-run-forwards = forwarding.every-run-forwards
+
+pub cuts-do-not-matter : CutsDoNotMatter
+cuts-do-not-matter = forwarding.cuts-do-not-matter
+
+pub flags-only-grow : FlagsOnlyGrow
+flags-only-grow = flags.flags-only-grow
+
+pub drains : Drains
+drains = draining.drains
+
+pub stories-hold : StoriesHold
+stories-hold = stories.stories-hold
+
+pub edges-hold : EdgesHold
+edges-hold = edges.edges-hold

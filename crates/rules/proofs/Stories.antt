@@ -1,0 +1,144 @@
+-- The stories of specs/Stories: each is a run, each theorem is applied to it, and what it comes to is computed. Assumes nothing.
+use mathlib.Core.Path.{_≡_, refl, sym, _∙_}
+use mathlib.Core.Bool.{true, false}
+use mathlib.Core.List.{[], _∷_, _++_}
+use native.Mathlib.Omega.{arith}
+use lib.ListN.{replicate}
+use Rattle.defs.specs.Choice.{when}
+use Rattle.defs.specs.Answer.{isDone, whenDone}
+use Rattle.defs.specs.Limits.{isRingSize, isThreshold, isTimeout, isClock, isPacketLength, isHeaderLength}
+use Rattle.defs.specs.Ladder.{doorOf, lateOf, lowestOf, recordAnswer, clockAnswer}
+use Rattle.defs.specs.Copying.{copied}
+use Rattle.defs.specs.Credit.{peerAvailCredit, peerNeedsCreditUpdate}
+use Rattle.packet.specs.Header.{encoded, decoded}
+use Rattle.packet.specs.Edges.{bytesA}
+use Rattle.runs.specs.Runs as runs
+use Rattle.runs.specs.Runs.{none, then, gathered, Each}
+use Rattle.txbuf.specs.Record.{usedOf, soundRecord, soundOf, heldFrom, held}
+use Rattle.txbuf.specs.Push.{runs, pushDone}
+use Rattle.txbuf.specs.Flush.{takenBy, overBy, endsBy, flushCount, flushOver, flushAnswer, flushDone, flushKept, flushOf}
+use Rattle.csm.specs.Turn.{turnStep, turnReads}
+use Rattle.csm.specs.declared.state.ConnState.the-variants.{PeerClosed, Killed}
+use Rattle.rules.specs.Record.{okSettings, soundConn, soundOver, quiet, creditOf, withState, killedOf}
+use Rattle.rules.specs.Notify.{seenOf, absorbed, settledOf, drainedOf, notifyDoor, notifyAnswer, notifyDone, notifyKept, notifyOf}
+use Rattle.rules.specs.Open.{freshOf, openAnswer, peerInitOf, localInitOf}
+use Rattle.rules.specs.Moves.{sendTaken, notifyTaken}
+use Rattle.rules.specs.Receive.{spokenOf, receivedOf, headerOf, recvDoor, recvRefusal, recvDone, recvKept, recvOf}
+use Rattle.rules.specs.Send.{heardOf, movedOf, updatedOf, onResponse, onShutdown, onData, ruleOf, goesOf, planOf, killsOf, sendDoorOf, sendLate, carried, sendDoor, sendAnswer, sendDone, sendKept, sendOf, accepted}
+use Rattle.rules.specs.Runs.{before, after, storeAfter, Steps, Run, tookBy, acceptedBy, deliveredBy, outs}
+use Rattle.rules.specs.Stories.{startA, a1, a2, a3, a4, a5, a6, a7, storeA, storyA, upToA5, endStoreA, startB, b1, b2, b3, b4, storyB, endStoreB, c3, c4, storyC, endStoreC, d2, storeD, d3, d4, d5, draining, startE, e1, e2, e3, e4, e5, storyE, endStoreE, ten, StoriesHold}
+use Rattle.rules.proofs.RunLaws.{every-run-forwards, cuts-do-not-matter}
+use Rattle.rules.proofs.FlagLaws.{flags-only-grow}
+use Rattle.rules.proofs.DrainLaws.{drains}
+
+up-to-a2 : Steps (startA .left .conn) (startA .store) (a2 ∷ a1 ∷ []) (after a2) storeA
+up-to-a2 = then (then none a1 (refl, refl)) a2 (refl, refl, refl)
+
+up-to-a5 : Run startA upToA5 (after a5) (storeAfter (storeAfter storeA a3) a5)
+up-to-a5 = record { opened = refl; steps = then (then (then up-to-a2 a3 (refl, refl, refl)) a4 (refl, refl, refl)) a5 (refl, refl, refl) }
+
+run-a : Run startA storyA (after a7) endStoreA
+run-a = record { opened = refl; steps = then (then (up-to-a5 .steps) a6 (refl, refl, refl)) a7 (refl, refl, refl) }
+
+run-b : Run startB storyB (after b4) endStoreB
+run-b = record {
+  opened = refl;
+  steps = then (then (then (then none b1 (refl, refl)) b2 (refl, refl, refl)) b3 (refl, refl, refl)) b4 (refl, refl, refl);
+}
+
+run-c : Run startA storyC (after c4) endStoreC
+run-c = record { opened = refl; steps = then (then up-to-a2 c3 (refl, refl, refl)) c4 (refl, refl, refl) }
+
+run-e : Run startE storyE (after e5) endStoreE
+run-e = record {
+  opened = refl;
+  steps =
+      then (then (then (then (then none e1 (refl, refl, refl)) e2 (refl, refl, refl)) e3 (refl, refl, refl)) e4 (refl, refl, refl)) e5 (refl, refl, refl);
+}
+
+up-to-d2 : Run startA (d2 ∷ a1 ∷ []) (after d2) storeD
+up-to-d2 = record { opened = refl; steps = then (then none a1 (refl, refl)) d2 (refl, refl, refl) }
+
+drain-steps : Steps (after d2) storeD draining (after d5) storeD
+drain-steps = then (then (then none d3 (refl, refl, refl)) d4 (refl, refl)) d5 (refl, refl, refl)
+
+-- ---- what the stories come to
+
+record Computed : Type 0 where
+  taken-a : gathered tookBy storyA ≡ ten
+  accepted-a : gathered acceptedBy storyA ≡ ten
+  empty-a : usedOf (after a7 .«tx_buf») ≡ 0
+  taken-b : gathered tookBy storyB ≡ ten
+  accepted-b : gathered acceptedBy storyB ≡ ten
+  empty-b : usedOf (after b4 .«tx_buf») ≡ 0
+  taken-c : gathered tookBy storyC ≡ ten
+  accepted-c : gathered acceptedBy storyC ≡ ten
+  empty-c : usedOf (after c4 .«tx_buf») ≡ 0
+  taken-e : gathered tookBy storyE ≡ replicate 12 7 ++ ten
+  accepted-e : gathered acceptedBy storyE ≡ replicate 12 7 ++ ten
+  empty-e : usedOf (after e5 .«tx_buf») ≡ 0
+  killed-c : after c3 .state ≡ Killed
+  refused-a : after a3 ≡ before a3
+  half-off : after a5 .state ≡ PeerClosed true false
+  both-off : after a6 .state ≡ PeerClosed true true
+  header : gathered deliveredBy storyA ≡ bytesA ∷ []
+  head-2 : after d2 .«tx_buf» .head ≡ 2
+  head-3 : after d3 .«tx_buf» .head ≡ 2
+  head-4 : after d4 .«tx_buf» .head ≡ 2
+  head-5 : after d5 .«tx_buf» .head ≡ 2
+  held-2 : usedOf (after d2 .«tx_buf») ≡ 2
+  outs-2 : outs draining ≡ 2
+
+computed : Computed
+unfolding when isDone whenDone isRingSize isThreshold isTimeout isClock isPacketLength isHeaderLength doorOf lateOf lowestOf recordAnswer clockAnswer copied peerAvailCredit peerNeedsCreditUpdate encoded decoded soundRecord soundOf heldFrom held runs pushDone takenBy overBy endsBy flushCount flushOver flushAnswer flushDone flushKept flushOf okSettings soundConn soundOver quiet creditOf withState killedOf seenOf absorbed settledOf drainedOf notifyDoor notifyAnswer notifyDone notifyKept notifyOf freshOf openAnswer peerInitOf localInitOf sendTaken notifyTaken turnStep spokenOf receivedOf headerOf recvDoor turnReads recvRefusal recvDone recvKept recvOf heardOf movedOf updatedOf onResponse onShutdown onData ruleOf goesOf planOf killsOf sendDoorOf sendLate carried sendDoor sendAnswer sendDone sendKept sendOf accepted gathered runs.outs
+computed = record {
+  taken-a = refl;
+  accepted-a = refl;
+  empty-a = refl;
+  taken-b = refl;
+  accepted-b = refl;
+  empty-b = refl;
+  taken-c = refl;
+  accepted-c = refl;
+  empty-c = refl;
+  taken-e = refl;
+  accepted-e = refl;
+  empty-e = refl;
+  killed-c = refl;
+  refused-a = refl;
+  half-off = refl;
+  both-off = refl;
+  header = refl;
+  head-2 = refl;
+  head-3 = refl;
+  head-4 = refl;
+  head-5 = refl;
+  held-2 = refl;
+  outs-2 = refl;
+}
+
+two-drained : usedOf (after d5 .«tx_buf») ≡ 0
+unfolding Each
+two-drained =
+    let v = computed in
+    drains startA (d2 ∷ a1 ∷ []) draining (after d2) (after d5) storeD storeD up-to-d2 drain-steps
+    (v .head-5 ∙ sym (v .head-4), (v .head-4 ∙ sym (v .head-3), (v .head-3 ∙ sym (v .head-2), tt)))
+    (omega (arith, v .held-2, v .outs-2))
+
+pub stories-hold : StoriesHold
+stories-hold =
+    let v = computed in
+    record {
+      shut-down = record { run = run-a; forwards = every-run-forwards _ _ _ _ run-a; taken = v .taken-a; accepted = v .accepted-a; empty = v .empty-a };
+      other-cut = record { run = run-b; forwards = every-run-forwards _ _ _ _ run-b; taken = v .taken-b; accepted = v .accepted-b; empty = v .empty-b };
+      killed = record { run = run-c; forwards = every-run-forwards _ _ _ _ run-c; taken = v .taken-c; accepted = v .accepted-c; empty = v .empty-c };
+      both-pieces = record { run = run-e; forwards = every-run-forwards _ _ _ _ run-e; taken = v .taken-e; accepted = v .accepted-e; empty = v .empty-e };
+      is-killed = v .killed-c;
+      refused = v .refused-a;
+      alike = cuts-do-not-matter _ _ _ _ _ _ _ _ run-a run-b (v .accepted-a ∙ sym (v .accepted-b)) (v .empty-a) (v .empty-b);
+      grown = flags-only-grow _ _ _ _ up-to-a5 a6 (refl, refl, refl) true false (v .half-off);
+      both-off = v .both-off;
+      two-held = v .held-2;
+      drained = two-drained;
+      first-header = v .header;
+    }

@@ -1,0 +1,156 @@
+-- The readings of 01 that a connection decides (R = 16, T = 4, timeouts 2,000): a to i. Assumes nothing.
+use Prim.Native.Nat.{ℕ}
+use mathlib.Core.Bool.{Bool, true, false}
+use mathlib.Core.List.{List, [], _∷_, _++_}
+use lib.ListN.{replicate}
+use Rattle.defs.specs.Answer.{told}
+use Rattle.defs.specs.Look.{FlagLeft}
+use Rattle.defs.specs.Reading.{Reading, _reads_}
+use Rattle.defs.specs.declared.answer.Answer.the-variants.{Done}
+use Rattle.defs.specs.declared.stream.StreamAnswer.the-variants.{Count, WouldBlock, Failed}
+use Rattle.defs.specs.declared.stream.ReadAnswer.{ReadAnswer}
+use Rattle.defs.specs.declared.stream.ReadAnswer.the-variants.{Count as ReadCount, WouldBlock as ReadWouldBlock}
+use Rattle.packet.specs.Uapi.{opRw, opCreditRequest, typeStream}
+use Rattle.packet.specs.Header.{decoded, encoded}
+use Rattle.packet.specs.Edges.{bytesA}
+use Rattle.txbuf.specs.Record.{held}
+use Rattle.txbuf.specs.declared.record.TxBuf.{TxBuf}
+use Rattle.csm.specs.Pending.{none}
+use Rattle.csm.specs.declared.timer.Timer.{Timer}
+use Rattle.csm.specs.declared.timer.Timer.the-variants.{Unset, At}
+use Rattle.csm.specs.declared.state.ConnState.the-variants.{Established, LocalClosed, Killed}
+use Rattle.rules.specs.Record.{creditOf}
+use Rattle.rules.specs.Open.{freshOf, peerInitOf, Opening}
+use Rattle.rules.specs.Look.{hasExpiredOf}
+use Rattle.rules.specs.Notify.{NotifyLeft, notifyOf}
+use Rattle.rules.specs.Receive.{RecvLeft, recvOf}
+use Rattle.rules.specs.Send.{SendLeft, sendOf}
+use Rattle.rules.specs.declared.record.VsockConnection.{VsockConnection}
+
+-- a guest's opening: CIDs 2 and 3, ports 1024 and 5000, with so much space
+abbrev opening : ℕ → Opening
+opening alloc = record {
+  size = 16;
+  settings = record { threshold = 4; «request_timeout» = 2000; «shutdown_timeout» = 2000 };
+  «local_cid» = 2;
+  «peer_cid» = 3;
+  «local_port» = 1024;
+  «peer_port» = 5000;
+  alloc = alloc;
+}
+
+abbrev ring : ℕ → TxBuf
+ring head = record { size = 16; head = head; tail = 0 }
+
+-- a turn to speak with a read answer of no bytes
+abbrev turn : VsockConnection → Bool → ReadAnswer → RecvLeft
+turn c present a = recvOf (record { conn = c; hdr = replicate 44 9; present = present; buf = []; clock = 0; answer = a; read = [] })
+
+abbrev afterA : RecvLeft
+afterA = turn (peerInitOf (opening 100) .conn) false ReadWouldBlock
+
+-- a: the first receive, whole; the connection is established
+unfoldable pub readingA : List Reading
+readingA = (afterA .hdr reads bytesA) ∷ (afterA .conn .state reads Established) ∷ []
+
+-- data of n bytes, the stream takes as many as it answers
+abbrev brings : VsockConnection → List ℕ → ℕ → List ℕ → SendLeft
+brings c store taken bytes = sendOf (record {
+  conn = c;
+  store = store;
+  hdr = encoded (record { «src_cid» = 3; «dst_cid» = 2; «src_port» = 5000; «dst_port» = 1024; len = lib.ListN.length bytes; «type_» = typeStream; op = opRw; flags = 0; «buf_alloc» = 100; «fwd_cnt» = 0 });
+  present = true;
+  buf = bytes;
+  clock = 0;
+  answers = record { first = Count taken; second = WouldBlock };
+  out = replicate taken 99;
+})
+
+abbrev afterB : SendLeft
+afterB = brings (afterA .conn) (replicate 16 0) 4 (replicate 10 1)
+
+abbrev afterC : SendLeft
+afterC = brings (afterB .conn) (afterB .store) 0 (replicate 10 2)
+
+abbrev afterD : SendLeft
+afterD = brings (afterB .conn) (afterB .store) 0 (replicate 11 2)
+
+-- b: 6 held, count 4, no update. c: 16 held. d: killed, 6 held
+unfoldable pub readingBCD : List Reading
+readingBCD =
+    (held (afterB .conn .«tx_buf») (afterB .store) reads replicate 6 1)
+    ∷ (afterB .conn .«fwd_cnt» reads 4)
+    ∷ (afterB .conn .«pending_rx» .«credit_update» reads false)
+    ∷ (held (afterC .conn .«tx_buf») (afterC .store) reads replicate 6 1 ++ replicate 10 2)
+    ∷ (afterD .conn .state reads Killed)
+    ∷ (held (afterD .conn .«tx_buf») (afterD .store) reads replicate 6 1)
+    ∷ []
+
+-- data of so many bytes, all taken: count minus told is so much, and whether an update is set
+abbrev owes : ℕ → Bool
+owes n = brings (afterA .conn) (replicate 16 0) n (replicate n 1) .conn .«pending_rx» .«credit_update»
+
+-- e: 12: none; 13: update; 17: wraps, none
+unfoldable pub readingE : List Reading
+readingE = (owes 12 reads false) ∷ (owes 13 reads true) ∷ (owes 17 reads false) ∷ []
+
+-- established, data to be read, and so much credit
+abbrev reader : ℕ → VsockConnection
+reader alloc = freshOf (opening alloc) Established (record { request = false; response = false; rst = false; rw = true; «credit_update» = false })
+
+-- g: credit 1, buffer of 0 bytes, read answer 0: LocalClosed. Credit 0, no buffer: CREDIT_REQUEST
+unfoldable pub readingG : List Reading
+readingG =
+    (turn (reader 1) true (ReadCount 0) .conn .state reads LocalClosed)
+    ∷ (decoded (turn (reader 0) false ReadWouldBlock .hdr) .op reads opCreditRequest)
+    ∷ []
+
+-- established, with a ring, the numbers of credit and a timer
+abbrev standing : TxBuf → ℕ → ℕ → ℕ → Timer → VsockConnection
+standing tx alloc sent forwarded timer = record {
+  settings = opening alloc .settings;
+  state = Established;
+  «local_cid» = 2;
+  «peer_cid» = 3;
+  «local_port» = 1024;
+  «peer_port» = 5000;
+  «tx_buf» = tx;
+  «fwd_cnt» = 0;
+  «peer_buf_alloc» = alloc;
+  «peer_fwd_cnt» = forwarded;
+  «rx_cnt» = sent;
+  «last_fwd_cnt_to_peer» = 0;
+  «pending_rx» = none;
+  expiry = timer;
+}
+
+abbrev afterF : NotifyLeft
+afterF = notifyOf (record {
+  conn = standing (record { size = 16; head = 20; tail = 12 }) 100 0 0 Unset;
+  readable = false;
+  writable = true;
+  store = replicate 16 7;
+  answers = record { first = Count 4; second = Failed };
+  out = replicate 8 99;
+})
+
+-- f: 4 taken, then failure: 4, tail 16, not killed
+unfoldable pub readingF : List Reading
+readingF =
+    (afterF .conn .«fwd_cnt» reads 4)
+    ∷ (afterF .conn .«tx_buf» reads record { size = 16; head = 20; tail = 16 })
+    ∷ (afterF .conn .state reads Established)
+    ∷ (afterF .out reads replicate 4 7 ++ replicate 4 99)
+    ∷ []
+
+-- h: alloc 10, sent 14, peer fwd 2
+unfoldable pub readingH : List Reading
+readingH = (creditOf (standing (ring 0) 10 14 2 Unset) reads 4294967294) ∷ []
+
+-- i: a timer of 500 has expired at 500, and not before
+abbrev expired : ℕ → FlagLeft
+expired clock = hasExpiredOf (record { conn = standing (ring 0) 100 0 0 (At 500); clock = clock })
+
+unfoldable pub readingI : List Reading
+readingI =
+    (expired 499 reads record { answer = told Done; holds = false }) ∷ (expired 500 reads record { answer = told Done; holds = true }) ∷ []

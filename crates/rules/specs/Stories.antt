@@ -1,0 +1,225 @@
+-- Runs at work: each theorem about runs, on calls that deliver, refuse, block, kill and shut down, so that no premise of it is empty. Assumes nothing.
+use Prim.Native.Nat.{ℕ}
+use mathlib.Core.Path.{_≡_}
+use mathlib.Core.Bool.{true, false}
+use mathlib.Core.List.{List, [], _∷_, _++_}
+use lib.ListN.{take, drop, replicate}
+use Rattle.defs.specs.declared.stream.StreamAnswer.{StreamAnswer}
+use Rattle.defs.specs.declared.stream.StreamAnswer.the-variants.{Count, WouldBlock}
+use Rattle.defs.specs.declared.stream.ReadAnswer.the-variants.{WouldBlock as ReadWouldBlock}
+use Rattle.packet.specs.Uapi.{opResponse, opShutdown, opRw, typeStream}
+use Rattle.packet.specs.Header.{encoded}
+use Rattle.packet.specs.Edges.{bytesA}
+use Rattle.runs.specs.Runs.{gathered}
+use Rattle.txbuf.specs.Record.{usedOf}
+use Rattle.csm.specs.State.{Grown}
+use Rattle.csm.specs.declared.state.ConnState.the-variants.{PeerClosed, Killed}
+use Rattle.rules.specs.Open.{Opening, peerInitOf, localInitOf}
+use Rattle.rules.specs.Receive.{RecvIn, recvOf}
+use Rattle.rules.specs.Send.{SendIn, sendOf}
+use Rattle.rules.specs.Notify.{NotifyIn, notifyOf}
+use Rattle.rules.specs.Runs.{Event, sends, receives, notifies, before, after, storeAfter, Start, Run, tookBy, acceptedBy, deliveredBy, Forwards, Alike}
+use Rattle.rules.specs.declared.record.VsockConnection.{VsockConnection}
+
+-- ---- what the stories are told with
+
+-- a guest's opening with a ring of so many bytes
+abbrev begins : ℕ → Start
+begins size =
+    let given : Opening = record {
+      size = size;
+      settings = record { threshold = 4; «request_timeout» = 2000; «shutdown_timeout» = 2000 };
+      «local_cid» = 2;
+      «peer_cid» = 3;
+      «local_port» = 1024;
+      «peer_port» = 5000;
+      alloc = 100;
+    } in
+    record { guest = true; given = given; left = peerInitOf given; store = replicate size 0 }
+
+-- a turn to speak
+abbrev turn : VsockConnection → Event
+turn c =
+    let i : RecvIn = record { conn = c; hdr = replicate 44 9; present = false; buf = []; clock = 0; answer = ReadWouldBlock; read = [] } in
+    receives i (recvOf i)
+
+abbrev packet : ℕ → ℕ → ℕ → List ℕ
+packet op flags len =
+    encoded (record { «src_cid» = 3; «dst_cid» = 2; «src_port» = 5000; «dst_port» = 1024; len = len; «type_» = typeStream; op = op; flags = flags; «buf_alloc» = 100; «fwd_cnt» = 0 })
+
+-- a packet with this header and this data, to a stream that answers so
+abbrev comes : VsockConnection → List ℕ → List ℕ → List ℕ → StreamAnswer → Event
+comes c store hdr bytes answer =
+    let i : SendIn = record {
+      conn = c;
+      store = store;
+      hdr = hdr;
+      present = true;
+      buf = bytes;
+      clock = 0;
+      answers = record { first = answer; second = WouldBlock };
+      out = replicate 16 99;
+    } in
+    sends i (sendOf i)
+
+-- an out-event, of a stream that answers so, and so to a second piece
+abbrev out2 : VsockConnection → List ℕ → StreamAnswer → StreamAnswer → Event
+out2 c store answer second =
+    let i : NotifyIn = record { conn = c; readable = false; writable = true; store = store; answers = record { first = answer; second = second }; out = replicate 16 99 } in
+    notifies i (notifyOf i)
+
+abbrev out : VsockConnection → List ℕ → StreamAnswer → Event
+out c store answer = out2 c store answer WouldBlock
+
+abbrev pub ten : List ℕ
+ten = 10 ∷ 11 ∷ 12 ∷ 13 ∷ 14 ∷ 15 ∷ 16 ∷ 17 ∷ 18 ∷ 19 ∷ []
+
+-- ---- a guest that is confirmed, sends ten bytes, is refused once, meets a stream that blocks, and shuts down in two halves
+
+abbrev pub startA : Start
+startA = begins 16
+
+abbrev pub a1 : Event
+a1 = turn (startA .left .conn)
+
+abbrev pub a2 : Event
+a2 = comes (after a1) (startA .store) (packet opRw 0 10) ten (Count 4)
+
+abbrev pub storeA : List ℕ
+storeA = storeAfter (startA .store) a2
+
+-- a header of 43 bytes: refused
+abbrev pub a3 : Event
+a3 = comes (after a2) storeA (replicate 43 9) ten (Count 4)
+
+abbrev pub a4 : Event
+a4 = out (after a3) (storeAfter storeA a3) WouldBlock
+
+abbrev pub a5 : Event
+a5 = comes (after a4) (storeAfter storeA a3) (packet opShutdown 1 0) [] (Count 9)
+
+abbrev pub a6 : Event
+a6 = comes (after a5) (storeAfter (storeAfter storeA a3) a5) (packet opShutdown 2 0) [] (Count 9)
+
+abbrev pub endStoreA : List ℕ
+endStoreA = storeAfter (storeAfter (storeAfter storeA a3) a5) a6
+
+abbrev pub a7 : Event
+a7 = out (after a6) endStoreA (Count 6)
+
+abbrev pub storyA : List Event
+storyA = a7 ∷ a6 ∷ a5 ∷ a4 ∷ a3 ∷ a2 ∷ a1 ∷ []
+
+abbrev pub upToA5 : List Event
+upToA5 = a5 ∷ a4 ∷ a3 ∷ a2 ∷ a1 ∷ []
+
+-- ---- the same ten bytes in another cut, through a ring of 32: three that the stream takes, seven that it takes later
+
+abbrev pub startB : Start
+startB = begins 32
+
+abbrev pub b1 : Event
+b1 = turn (startB .left .conn)
+
+abbrev pub b2 : Event
+b2 = comes (after b1) (startB .store) (packet opRw 0 3) (take 3 ten) (Count 3)
+
+abbrev pub b3 : Event
+b3 = comes (after b2) (storeAfter (startB .store) b2) (packet opRw 0 7) (drop 3 ten) WouldBlock
+
+abbrev pub endStoreB : List ℕ
+endStoreB = storeAfter (storeAfter (startB .store) b2) b3
+
+abbrev pub b4 : Event
+b4 = out (after b3) endStoreB (Count 7)
+
+abbrev pub storyB : List Event
+storyB = b4 ∷ b3 ∷ b2 ∷ b1 ∷ []
+
+-- ---- a guest that finds the ring full: killed, and what was accepted before still goes on
+
+abbrev pub c3 : Event
+c3 = comes (after a2) storeA (packet opRw 0 11) (99 ∷ ten) (Count 11)
+
+abbrev pub endStoreC : List ℕ
+endStoreC = storeAfter storeA c3
+
+abbrev pub c4 : Event
+c4 = out (after c3) endStoreC (Count 6)
+
+abbrev pub storyC : List Event
+storyC = c4 ∷ c3 ∷ a2 ∷ a1 ∷ []
+
+-- ---- two bytes held, then two out-events that take one each, with a turn to speak between
+
+abbrev pub d2 : Event
+d2 = comes (after a1) (startA .store) (packet opRw 0 2) (take 2 ten) WouldBlock
+
+abbrev pub storeD : List ℕ
+storeD = storeAfter (startA .store) d2
+
+abbrev pub d3 : Event
+d3 = out (after d2) storeD (Count 1)
+
+abbrev pub d4 : Event
+d4 = turn (after d3)
+
+abbrev pub d5 : Event
+d5 = out (after d4) storeD (Count 1)
+
+abbrev pub draining : List Event
+draining = d5 ∷ d4 ∷ d3 ∷ []
+
+-- ---- ten bytes across the storage's end, opened by the host: twelve are held and taken, then ten are held as four and six, and taken in both pieces
+
+abbrev pub startE : Start
+startE =
+    let given : Opening = begins 16 .given in
+    record { guest = false; given = given; left = localInitOf given; store = replicate 16 0 }
+
+abbrev pub e1 : Event
+e1 = comes (startE .left .conn) (startE .store) (packet opResponse 0 0) [] (Count 9)
+
+abbrev pub e2 : Event
+e2 = comes (after e1) (storeAfter (startE .store) e1) (packet opRw 0 12) (replicate 12 7) WouldBlock
+
+abbrev pub storeE : List ℕ
+storeE = storeAfter (storeAfter (startE .store) e1) e2
+
+abbrev pub e3 : Event
+e3 = out (after e2) storeE (Count 12)
+
+abbrev pub e4 : Event
+e4 = comes (after e3) storeE (packet opRw 0 10) ten WouldBlock
+
+abbrev pub endStoreE : List ℕ
+endStoreE = storeAfter storeE e4
+
+abbrev pub e5 : Event
+e5 = out2 (after e4) endStoreE (Count 4) (Count 6)
+
+abbrev pub storyE : List Event
+storyE = e5 ∷ e4 ∷ e3 ∷ e2 ∷ e1 ∷ []
+
+-- ---- what the theorems say of them, and what they come to
+
+pub record Ends (s : Start) (t : List Event) (c : VsockConnection) (store bytes : List ℕ) : Type 0 where
+  pub run : Run s t c store
+  pub forwards : Forwards t c store
+  pub taken : gathered tookBy t ≡ bytes
+  pub accepted : gathered acceptedBy t ≡ bytes
+  pub empty : usedOf (c .«tx_buf») ≡ 0
+
+pub record StoriesHold : Type 0 where
+  pub shut-down : Ends startA storyA (after a7) endStoreA ten
+  pub other-cut : Ends startB storyB (after b4) endStoreB ten
+  pub killed : Ends startA storyC (after c4) endStoreC ten
+  pub both-pieces : Ends startE storyE (after e5) endStoreE (replicate 12 7 ++ ten)
+  pub is-killed : after c3 .state ≡ Killed
+  pub refused : after a3 ≡ before a3
+  pub alike : Alike storyA storyB (after a7) (after b4)
+  pub grown : Grown true false (after a6 .state)
+  pub both-off : after a6 .state ≡ PeerClosed true true
+  pub two-held : usedOf (after d2 .«tx_buf») ≡ 2
+  pub drained : usedOf (after d5 .«tx_buf») ≡ 0
+  pub first-header : gathered deliveredBy storyA ≡ bytesA ∷ []
