@@ -1,10 +1,7 @@
 pub mod Edges
-pub mod LookLaws
-pub mod RawLaws
 pub mod RecordLaws
 pub mod ReceiveLaws
 pub mod SendLaws
-pub mod NotifyLaws
 pub mod AnswerLaws
 pub mod OutcomeLaws
 pub mod OfferLaws

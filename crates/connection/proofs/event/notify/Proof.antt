@@ -6,7 +6,7 @@ use Rattle.defs.specs.Answer.{told}
 use Rattle.defs.proofs.AnswerLaws.{told-tells-apart}
 use Rattle.txbuf.specs.Flush.{FlushLeft}
 use Rattle.rules.specs.Notify.{NotifyIn}
-use Rattle.rules.proofs.NotifyLaws.{Flushing, flushing, flush-within, notify-refused, notify-seen, notify-kept, notify-done}
+use Rattle.connection.proofs.NotifyLaws.{Flushing, flushing, flush-within, notify-refused, notify-seen, notify-kept, notify-done}
 use Rattle.connection.proofs.event.notify.Statement.{statement}
 use Rattle.connection.proofs.event.notify.Tie as tie
 

@@ -1,7 +1,7 @@
 use borrow.Author.Needs.{needs}
 use mathlib.Core.Path.{ap}
 use Rattle.defs.specs.Answer.{told}
-use Rattle.rules.proofs.NotifyLaws.{notify-door}
+use Rattle.connection.proofs.NotifyLaws.{notify-door}
 use Rattle.connection.proofs.event.notify_door.Statement.{statement}
 use Rattle.connection.proofs.event.notify_door.Tie as tie
 

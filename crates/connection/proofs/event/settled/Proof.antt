@@ -1,5 +1,5 @@
 use borrow.Author.Needs.{needs}
-use Rattle.rules.proofs.NotifyLaws.{settled-reset, settled-updated}
+use Rattle.connection.proofs.NotifyLaws.{settled-reset, settled-updated}
 use Rattle.connection.proofs.event.settled.Statement.{statement}
 use Rattle.connection.proofs.event.settled.Tie as tie
 

@@ -1,7 +1,7 @@
 use borrow.Author.Needs.{needs}
 use mathlib.Core.Path.{ap, _∙_}
 use Rattle.defs.specs.Ladder.{recordAnswer}
-use Rattle.rules.proofs.LookLaws.{evset-kept, evset-done}
+use Rattle.connection.proofs.LookLaws.{evset-kept, evset-done}
 use Rattle.connection.proofs.look.get_polled_evset.Statement.{statement}
 use Rattle.connection.proofs.look.get_polled_evset.Tie as tie
 

@@ -1,6 +1,6 @@
 use borrow.Author.Needs.{needs}
-use Rattle.rules.proofs.OfferLaws.{is-flushing}
-use Rattle.rules.proofs.NotifyLaws.{notify-door}
+use Rattle.connection.proofs.OfferLaws.{is-flushing}
+use Rattle.connection.proofs.NotifyLaws.{notify-door}
 use Rattle.connection.proofs.offer.flushes.Statement.{statement}
 use Rattle.connection.proofs.offer.flushes.Tie as tie
 

@@ -1,6 +1,6 @@
 use borrow.Author.Needs.{needs}
 use mathlib.Core.Path.{sym, _∙_}
-use Rattle.rules.proofs.OfferLaws.{first-due, no-first}
+use Rattle.connection.proofs.OfferLaws.{first-due, no-first}
 use Rattle.connection.proofs.offer.notify_offered.Statement.{statement}
 use Rattle.connection.proofs.offer.notify_offered.Tie as tie
 

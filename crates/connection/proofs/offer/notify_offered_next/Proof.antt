@@ -1,6 +1,6 @@
 use borrow.Author.Needs.{needs}
 use mathlib.Core.Path.{sym, _∙_}
-use Rattle.rules.proofs.OfferLaws.{second-due, no-second}
+use Rattle.connection.proofs.OfferLaws.{second-due, no-second}
 use Rattle.connection.proofs.offer.notify_offered_next.Statement.{statement}
 use Rattle.connection.proofs.offer.notify_offered_next.Tie as tie
 

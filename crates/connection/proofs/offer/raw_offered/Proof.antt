@@ -1,6 +1,6 @@
 use borrow.Author.Needs.{needs}
 use Rattle.defs.proofs.AnswerLaws.{told-tells-apart}
-use Rattle.rules.proofs.OfferLaws.{raw-open, raw-shut}
+use Rattle.connection.proofs.OfferLaws.{raw-open, raw-shut}
 use Rattle.connection.proofs.offer.raw_offered.Statement.{statement}
 use Rattle.connection.proofs.offer.raw_offered.Tie as tie
 

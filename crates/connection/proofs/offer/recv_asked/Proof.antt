@@ -3,7 +3,7 @@ use Prim.Native.Nat.{ℕ, min}
 use mathlib.Core.Path.{ap, _∙_}
 use denote.Ref.{now}
 use lib.ListN.{length}
-use Rattle.rules.proofs.OfferLaws.{asks}
+use Rattle.connection.proofs.OfferLaws.{asks}
 use Rattle.connection.proofs.offer.recv_asked.Statement.{statement}
 use Rattle.connection.proofs.offer.recv_asked.Tie as tie
 

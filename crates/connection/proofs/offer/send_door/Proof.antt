@@ -2,7 +2,7 @@ use borrow.Author.Needs.{needs}
 use mathlib.Core.Path.{ap}
 use Rattle.defs.specs.Answer.{told}
 use Rattle.packet.proofs.Callers.{header-is, no-header}
-use Rattle.rules.proofs.OfferLaws.{door-headless, door-headed}
+use Rattle.connection.proofs.OfferLaws.{door-headless, door-headed}
 use Rattle.connection.proofs.offer.send_door.Statement.{statement}
 use Rattle.connection.proofs.offer.send_door.Tie as tie
 

@@ -3,7 +3,7 @@ use mathlib.Core.Path.{sym, _∙_}
 use native.Mathlib.Omega.{arith}
 use lib.ListN.{length-take}
 use Rattle.packet.proofs.Callers.{header-is, no-header}
-use Rattle.rules.proofs.OfferLaws.{no-write, nothing-offered, front-offered}
+use Rattle.connection.proofs.OfferLaws.{no-write, nothing-offered, front-offered}
 use Rattle.connection.proofs.offer.send_offered.Statement.{statement}
 use Rattle.connection.proofs.offer.send_offered.Tie as tie
 

@@ -1,6 +1,6 @@
 use borrow.Author.Needs.{needs}
 use Rattle.packet.proofs.Callers.{header-is, no-header}
-use Rattle.rules.proofs.OfferLaws.{no-write, writes}
+use Rattle.connection.proofs.OfferLaws.{no-write, writes}
 use Rattle.connection.proofs.offer.send_writes.Statement.{statement}
 use Rattle.connection.proofs.offer.send_writes.Tie as tie
 

@@ -7,7 +7,7 @@ use denote.Ref.{now}
 use Rattle.defs.specs.Stream.{counted}
 use Rattle.defs.proofs.AnswerLaws.{not-done, told-tells-apart}
 use Rattle.rules.specs.Raw.{RawIn, rawAnswer}
-use Rattle.rules.proofs.RawLaws.{raw-counted, raw-stopped, stop-refuses, raw-kept, raw-left, raw-fits}
+use Rattle.connection.proofs.RawLaws.{raw-counted, raw-stopped, stop-refuses, raw-kept, raw-left, raw-fits}
 use Rattle.connection.proofs.raw.send_bytes_raw.Statement.{statement}
 use Rattle.connection.proofs.raw.send_bytes_raw.Tie as tie
 

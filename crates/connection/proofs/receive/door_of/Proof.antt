@@ -1,5 +1,5 @@
 use borrow.Author.Needs.{needs}
-use Rattle.rules.proofs.ReceiveLaws.{door-is}
+use Rattle.connection.proofs.ReceiveLaws.{door-is}
 use Rattle.connection.proofs.receive.door_of.Statement.{statement}
 use Rattle.connection.proofs.receive.door_of.Tie as tie
 

@@ -6,7 +6,8 @@ use lib.ListN.{length-take}
 use denote.Ref.{now}
 use Rattle.csm.specs.declared.row.Row.{Row}
 use Rattle.rules.specs.Receive.{RecvIn, saidBy}
-use Rattle.rules.proofs.ReceiveLaws.{Passed, passed, recv-kept, recv-left}
+use Rattle.rules.proofs.ReceiveLaws.{Passed, passed}
+use Rattle.connection.proofs.ReceiveLaws.{recv-kept, recv-left}
 use Rattle.connection.proofs.receive.recv_pkt.Statement.{statement}
 use Rattle.connection.proofs.receive.recv_pkt.Tie as tie
 

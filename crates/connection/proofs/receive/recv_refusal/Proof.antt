@@ -2,7 +2,7 @@
 use borrow.Author.Needs.{needs}
 use Prim.Native.Nat.{ℕ, min}
 use mathlib.Core.Path.{ap, _∙_}
-use Rattle.rules.proofs.ReceiveLaws.{refusal-counted, refusal-uncounted}
+use Rattle.connection.proofs.ReceiveLaws.{refusal-counted, refusal-uncounted}
 use Rattle.connection.proofs.receive.recv_refusal.Statement.{statement}
 use Rattle.connection.proofs.receive.recv_refusal.Tie as tie
 

@@ -2,7 +2,7 @@
 use borrow.Author.Needs.{needs}
 use native.Mathlib.Omega.{arith}
 use lib.ListN.{length-take}
-use Rattle.rules.proofs.SendLaws.{pushed-is, not-pushed, out-is}
+use Rattle.connection.proofs.SendLaws.{pushed-is, not-pushed, out-is}
 use Rattle.connection.proofs.send.carry.Statement.{statement}
 use Rattle.connection.proofs.send.carry.Tie as tie
 

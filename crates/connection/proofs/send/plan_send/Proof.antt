@@ -1,6 +1,6 @@
 -- `plan_send` meets its contract: of an answer that counts, and of one that blocks or fails.
 use borrow.Author.Needs.{needs}
-use Rattle.rules.proofs.SendLaws.{plan-counted, plan-stopped}
+use Rattle.connection.proofs.SendLaws.{plan-counted, plan-stopped}
 use Rattle.connection.proofs.send.plan_send.Statement.{statement}
 use Rattle.connection.proofs.send.plan_send.Tie as tie
 

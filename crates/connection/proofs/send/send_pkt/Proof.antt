@@ -8,7 +8,8 @@ use Rattle.defs.proofs.AnswerLaws.{not-done}
 use Rattle.packet.proofs.Callers.{header-is, no-header}
 use Rattle.rules.specs.Send.{SendIn}
 use Rattle.rules.specs.declared.plan.SendPlan.{SendPlan}
-use Rattle.rules.proofs.SendLaws.{Passed, Found, passed, found, carries, rules, send-no-header, send-kept, send-left}
+use Rattle.rules.proofs.SendLaws.{Passed, passed, carries}
+use Rattle.connection.proofs.SendLaws.{Found, found, rules, send-no-header, send-kept, send-left}
 use Rattle.connection.proofs.send.send_pkt.Statement.{statement}
 use Rattle.connection.proofs.send.send_pkt.Tie as tie
 
