@@ -34,7 +34,7 @@ pub length-encoded : (h : VsockPacketHdr) → length (encoded h) ≡ headerSize
 unfolding encoded
 length-encoded h = refl
 
-decoded-encoded : (h : VsockPacketHdr) → Fit layout (fields h) → decoded (encoded h) ≡ h
+pub decoded-encoded : (h : VsockPacketHdr) → Fit layout (fields h) → decoded (encoded h) ≡ h
 unfolding decoded encoded
 decoded-encoded h f =
     ap ofFields (ap (unpacked layout) (sym (append-nil (packed layout (fields h)))) ∙ unpacked-packed layout (fields h) [] f)

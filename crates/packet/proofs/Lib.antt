@@ -1,3 +1,4 @@
+pub mod AnswerLaws
 pub mod LeLaws
 pub mod HeaderLaws
 pub mod Callers

@@ -4,7 +4,8 @@ use Rattle.defs.specs.Choice.{when}
 use Rattle.defs.specs.Limits.{isHeaderLength}
 use Rattle.packet.specs.Header.{encoded, decoded, decodeOf, encodeOf}
 use Rattle.packet.specs.Edges.{readingA, wrongLengths}
-use Rattle.packet.specs.Promises.{FieldsStandAt, DecodeAfterEncode, EncodeAfterDecode, ToldTellsApart, EdgesHold}
+use Rattle.packet.specs.Promises.{FieldsStandAt, DecodeAfterEncode, EncodeAfterDecode, DecodeAnswers, EncodeAnswers, RefusalsChangeNothing, ToldTellsApart, EdgesHold}
+use Rattle.packet.proofs.AnswerLaws as answers
 use Rattle.packet.proofs.HeaderLaws as header
 use Rattle.packet.proofs.Callers as callers
 
@@ -16,6 +17,15 @@ decode-after-encode = header.decode-after-encode
 
 pub encode-after-decode : EncodeAfterDecode
 encode-after-decode = header.encode-after-decode
+
+pub decode-answers : DecodeAnswers
+decode-answers = answers.decode-answers
+
+pub encode-answers : EncodeAnswers
+encode-answers = answers.encode-answers
+
+pub refusals-change-nothing : RefusalsChangeNothing
+refusals-change-nothing = answers.refusals-change-nothing
 
 pub told-tells-apart : ToldTellsApart
 told-tells-apart = callers.told-tells-apart

@@ -2,13 +2,14 @@
 use Prim.Native.Nat.{ℕ, _^_, _<_}
 use mathlib.Core.Path.{_≡_}
 use mathlib.Core.List.{List, [], _∷_}
-use lib.ListN.{length, getD}
+use lib.ListN.{length, getD, replicate}
 use Rattle.defs.specs.Answer.{told}
 use Rattle.defs.specs.Limits.{headerSize}
+use Rattle.defs.specs.Promises.{AnswersInTurn, Refuses}
 use Rattle.defs.specs.Reading.{Hold}
 use Rattle.defs.specs.declared.answer.Answer.the-variants.{Done}
 use Rattle.packet.specs.Le.{offsets}
-use Rattle.packet.specs.Header.{layout, fields, toldDecoded, decodeOf, encodeOf}
+use Rattle.packet.specs.Header.{layout, fields, toldDecoded, DecodeLeft, decodeOf, DecodeSays, EncodeIn, EncodeLeft, encodeOf, EncodeSays}
 use Rattle.packet.specs.Edges.{readingA, wrongLengths}
 use Rattle.packet.specs.declared.hdr.VsockPacketHdr.{VsockPacketHdr}
 use Rattle.packet.specs.declared.hdr.Decoded.{Decoded}
@@ -39,6 +40,18 @@ abbrev pub EncodeAfterDecode : Type 0
 EncodeAfterDecode =
     (bytes out : List ℕ) → Bytes bytes → length bytes ≡ headerSize → length out ≡ headerSize
     → encodeOf (record { hdr = decodeOf bytes .hdr; out = out }) ≡ record { answer = told Done; out = bytes }
+
+-- 01's table: 2 exactly when the header buffer is not 44 bytes
+abbrev pub DecodeAnswers : Type 0
+DecodeAnswers = (bytes : List ℕ) (left : DecodeLeft) → DecodeSays bytes left → AnswersInTurn (left .answer) ((2, length bytes ≡ 44 → ⊥) ∷ [])
+
+abbrev pub EncodeAnswers : Type 0
+EncodeAnswers = (i : EncodeIn) (left : EncodeLeft) → EncodeSays i left → AnswersInTurn (left .answer) ((2, length (i .out) ≡ 44 → ⊥) ∷ [])
+
+-- a refused encode leaves the buffer; a refused decode gives a header whose numbers are all 0
+pub record RefusalsChangeNothing : Type 0 where
+  pub decode : (bytes : List ℕ) (left : DecodeLeft) → DecodeSays bytes left → Refuses (left .answer) → fields (left .hdr) ≡ replicate 10 0
+  pub encode : (i : EncodeIn) (left : EncodeLeft) → EncodeSays i left → Refuses (left .answer) → left .out ≡ i .out
 
 -- 01, "When an answer is an enum": number and values tell decode's cases apart
 abbrev pub ToldTellsApart : Type 0
