@@ -1,7 +1,8 @@
 -- The promises of specs/Promises, each by its law. Assumes nothing.
-use Rattle.csm.specs.Promises.{SaysWhatWasRead, TurnAnswers, ShutOnlyGrows}
+use Rattle.csm.specs.Promises.{SaysWhatWasRead, TurnAnswers, LastToldMoves, ShutOnlyGrows}
 use Rattle.csm.specs.Said.{SaysFirstPending, SevenAndEightAlwaysLeave}
 use Rattle.csm.specs.Means.{EveryStateMeans, EveryTimerMeans}
+use Rattle.csm.proofs.FirstLaws as first
 use Rattle.csm.proofs.MeansLaws as means
 use Rattle.csm.proofs.SaidLaws as said
 use Rattle.csm.proofs.StateLaws as states
@@ -11,7 +12,10 @@ pub says-what-was-read : SaysWhatWasRead
 says-what-was-read = turns.says-what-was-read
 
 pub turn-answers : TurnAnswers
-turn-answers = turns.turn-answers
+turn-answers = first.turn-answers
+
+pub last-told-moves : LastToldMoves
+last-told-moves = first.last-told-moves
 
 pub shut-only-grows : ShutOnlyGrows
 shut-only-grows = states.shut-only-grows

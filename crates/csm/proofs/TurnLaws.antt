@@ -12,12 +12,11 @@ use Rattle.defs.specs.declared.stream.ReadAnswer.{ReadAnswer}
 use Rattle.defs.specs.declared.stream.ReadAnswer.the-variants.{Count, WouldBlock, Failed}
 use Rattle.defs.proofs.Basics.{and-false}
 use Rattle.defs.proofs.ChoiceLaws.{when-true, when-false}
-use Rattle.defs.proofs.MeansLaws.{as-is}
-use Rattle.defs.proofs.LadderLaws.{firstInTurn, by-turn, row}
+use Rattle.defs.proofs.LadderLaws.{firstInTurn}
 use Rattle.csm.specs.State.{gives}
 use Rattle.csm.specs.Turn.{readStep, dataStep, updateStep, dataFirst, turnStep, turnReads, hasNothing, lacksBuffer}
 use Rattle.csm.specs.Row.{rowOf}
-use Rattle.csm.specs.Promises.{SaysWhatWasRead, TurnAnswers}
+use Rattle.csm.specs.Promises.{SaysWhatWasRead}
 use Rattle.csm.specs.declared.pending.PendingRxSet.{PendingRxSet}
 use Rattle.csm.specs.declared.row.After.{After}
 use Rattle.csm.specs.declared.row.After.the-variants.{Same, Closes}
@@ -56,12 +55,6 @@ pub turn-number : (p : PendingRxSet) (s : ConnState) (noCredit present : Bool) (
     ≡ firstInTurn ((7, hasNothing p s noCredit present a) ∷ (8, lacksBuffer p s noCredit present) ∷ [])
 unfolding turnStep turnReads hasNothing lacksBuffer
 turn-number p s noCredit present a = by-answer (p .rst) (p .response) (p .request) (p .rw) (gives s) noCredit present (p .«credit_update») a
-
-pub turn-answers : TurnAnswers
-turn-answers p s noCredit present a =
-    by-turn (told (rowOf (turnStep p s noCredit present a) .answer))
-    (row 7 (as-is (hasNothing p s noCredit present a)) ∷ row 8 (as-is (lacksBuffer p s noCredit present)) ∷ [])
-    (turn-number p s noCredit present a)
 
 -- ---- how much is said
 

@@ -1,11 +1,12 @@
 -- What a turn says, said a second time (01, `recv_pkt`): a list that is walked from the front, apart from the steps that the code follows. Assumes nothing.
 use Prim.Native.Nat.{ℕ, suc}
 use mathlib.Core.Path.{_≡_}
+use mathlib.Core.Logic.{_⊎_}
 use mathlib.Core.Bool.{Bool, true, false, not, _&&_, _||_}
 use mathlib.Core.List.{List, [], _∷_}
 use lib.Dec.{eqb}
 use Rattle.defs.specs.Choice.{when}
-use Rattle.defs.specs.Answer.{told}
+use Rattle.defs.specs.Answer.{Told, told}
 use Rattle.defs.specs.Stream.{readCounted}
 use Rattle.defs.specs.declared.stream.ReadAnswer.{ReadAnswer}
 use Rattle.defs.specs.declared.stream.ReadAnswer.the-variants.{Count, WouldBlock, Failed}
@@ -147,9 +148,12 @@ saidBy t =
 abbrev pub SaysFirstPending : Type 0
 SaysFirstPending = (t : Turn) → saidBy t ≡ saidNow t
 
--- the number of a turn's answer
+-- a turn's answer, by the row of its step, and its number
+abbrev pub answerOf : Turn → Told
+answerOf t = told (rowOf (turnStep (t .pending) (t .state) (t .noCredit) (t .present) (t .answer)) .answer)
+
 abbrev pub numberOf : Turn → ℕ
-numberOf t = told (rowOf (turnStep (t .pending) (t .state) (t .noCredit) (t .present) (t .answer)) .answer) .number
+numberOf t = answerOf t .number
 
 -- the same indications without Rw
 abbrev pub rwGone : PendingRxSet → PendingRxSet
@@ -163,3 +167,31 @@ pub record SevenAndEightLeave (t : Turn) : Type 0 where
 
 abbrev pub SevenAndEightAlwaysLeave : Type 0
 SevenAndEightAlwaysLeave = (t : Turn) → SevenAndEightLeave t
+
+-- ---- the same as facts about what is first
+
+-- Rw is the first that is pending, in a state that serves data
+abbrev pub DataFirst : Turn → Type 0
+DataFirst t = (t .pending .rst ≡ false) × (t .pending .response ≡ false) × (t .pending .request ≡ false) × (t .pending .rw ≡ true) × (servesData (t .state) ≡ true)
+
+-- its read is made: credit isn't 0, and there is a buffer
+abbrev pub Reads : Turn → Type 0
+Reads t = DataFirst t × (t .noCredit ≡ false) × (t .present ≡ true)
+
+-- nothing comes before CreditUpdate: no Rst, Response or Request, and no Rw, or one whose read, credit and buffer permitting, would block
+abbrev pub UpdateNext : Turn → Type 0
+UpdateNext t =
+    (t .pending .rst ≡ false) × (t .pending .response ≡ false) × (t .pending .request ≡ false) × ((t .pending .rw ≡ false) ⊎ (Reads t × (t .answer ≡ WouldBlock)))
+
+-- 01, answer 7: nothing to say
+abbrev pub NothingToSay : Turn → Type 0
+NothingToSay t = UpdateNext t × (t .pending .«credit_update» ≡ false)
+
+-- 01, answer 8: data due, credit not 0, no buffer
+abbrev pub BufferMissing : Turn → Type 0
+BufferMissing t = DataFirst t × (t .noCredit ≡ false) × (t .present ≡ false)
+
+-- 01: a credit request; data, a shutdown or a read failure, which are the reads that do not block; or a credit update
+abbrev pub TellsOurCount : Turn → Type 0
+TellsOurCount t =
+    (DataFirst t × (t .noCredit ≡ true)) ⊎ (Reads t × (t .answer ≡ WouldBlock → ⊥)) ⊎ (UpdateNext t × (t .pending .«credit_update» ≡ true))
