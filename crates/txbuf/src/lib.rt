@@ -7,4 +7,5 @@ mod record;
 pub use flush::Flushed;
 pub use push::Pushed;
 pub use push::vsock_ring_push;
+pub use record::Opened;
 pub use record::TxBuf;

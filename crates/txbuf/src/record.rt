@@ -3,7 +3,6 @@ ghost use mathlib.Core.Path.{_≡_};
 ghost use Rattle.defs.specs.Answer.{told};
 ghost use Rattle.defs.specs.Look.{FlagLeft, FlagSays, LenLeft, LenSays};
 ghost use Rattle.txbuf.specs.Record.{usedOf, soundRecord, soundOf, isEmpty, lookAnswer, NewLeft, NewSays};
-use crate::push::Pushed;
 use defs::Answer;
 use defs::Flag;
 use defs::Len;
@@ -17,14 +16,19 @@ pub struct TxBuf {
     pub tail: u32,
 }
 
+pub struct Opened {
+    pub answer: Answer,
+    pub ring: TxBuf,
+}
+
 impl TxBuf {
     // An empty ring of a given size; the all-zero record where no ring has that size.
-    pub fn new(size: u32) -> Pushed
+    pub fn new(size: u32) -> Opened
         ensures { λ r. ⌜ NewSays size (record { answer = told (r .answer); ring = r .ring }) ⌝ }
     {
         let answer = defs::record_answer(limits::is_ring_size(size));
         let Answer::Done = answer else {
-            return Pushed {
+            return Opened {
                 answer,
                 ring: TxBuf {
                     size: 0,
@@ -33,7 +37,7 @@ impl TxBuf {
                 },
             };
         };
-        Pushed {
+        Opened {
             answer,
             ring: TxBuf {
                 size,
