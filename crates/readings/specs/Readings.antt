@@ -27,9 +27,9 @@ queues = popI ++ readingJ
 unfoldable pub readings : List Reading
 readings = parts ++ whole ++ queues
 
--- none is left out: of a to f and h in parts 2 + 3 + 3 + 3 + 1; of a to i whole 2 + 6 + 3 + 4 + 2 + 1 + 2; of i's pop 2, of j 5
+-- none is left out: of a to f and h in parts 2 + 3 + 3 + 4 + 1; of a to i whole 2 + 6 + 3 + 4 + 2 + 1 + 2; of i's pop 2, of j 5
 abbrev pub NoneLeftOut : Type 0
-NoneLeftOut = length readings ≡ 2 + 3 + 3 + 3 + 1 + (2 + 6 + 3 + 4 + 2 + 1 + 2) + (2 + 5)
+NoneLeftOut = length readings ≡ 2 + 3 + 3 + 4 + 1 + (2 + 6 + 3 + 4 + 2 + 1 + 2) + (2 + 5)
 
 -- every starred reading is what the specifications say
 abbrev pub ReadingsHold : Type 0

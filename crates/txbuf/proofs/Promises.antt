@@ -7,7 +7,7 @@ use Rattle.defs.specs.Ladder.{doorOf, lateOf, lowestOf, recordAnswer}
 use Rattle.defs.specs.Copying.{copied}
 use Rattle.txbuf.specs.Record.{soundRecord, soundOf, heldFrom, held}
 use Rattle.txbuf.specs.Push.{runs, pushAnswer, pushDone, pushKept, pushOf}
-use Rattle.txbuf.specs.Flush.{firstPiece, takenBy, overBy, endsBy, flushCount, flushOver, flushAnswer, flushDone, flushKept, flushOf}
+use Rattle.txbuf.specs.Flush.{firstPiece, takenBy, overBy, endsBy, flushCount, flushOver, flushAnswer, secondPiece, flushDone, flushKept, flushOf}
 use Rattle.txbuf.specs.Edges.{readingBCD, readingF}
 use Rattle.txbuf.specs.Promises.{TwoRunsAreOneWrite, HeldIsCounted, PushAppends, FirstPieceIsOldest, PiecesAreHeld, FlushTakesOldest, FlushProgresses, EdgesHold}
 use Rattle.txbuf.specs.Answers.{PushAnswers, FlushAnswers}
@@ -45,5 +45,5 @@ pub flush-answers : FlushAnswers
 flush-answers = answers.flush-answers
 
 pub edges-hold : EdgesHold
-unfolding when isDone whenDone isRingSize isPacketLength doorOf lateOf lowestOf copied soundRecord soundOf recordAnswer heldFrom held runs pushAnswer pushDone pushKept pushOf firstPiece takenBy overBy endsBy flushCount flushOver flushAnswer flushDone flushKept flushOf readingBCD readingF
-edges-hold = record { bcd = (refl, (refl, (refl, tt))); f = (refl, (refl, (refl, tt))) }
+unfolding when isDone whenDone isRingSize isPacketLength doorOf lateOf lowestOf copied soundRecord soundOf recordAnswer heldFrom held runs pushAnswer pushDone pushKept pushOf firstPiece takenBy overBy endsBy flushCount flushOver flushAnswer secondPiece flushDone flushKept flushOf readingBCD readingF
+edges-hold = record { bcd = (refl, (refl, (refl, tt))); f = (refl, (refl, (refl, (refl, tt)))) }
