@@ -83,6 +83,12 @@ by-turn t l e = record {
 abbrev pub row : {fact : Type 0} {test : Bool} → ℕ → Exactly (test ≡ true) fact → Decided
 row {fact} {test} n means = record { number = n; fact = fact; test = test; means = means }
 
+-- rows behind one may be exchanged for others whose number is the same where its test fails
+pub exchange : (n : ℕ) (b : Bool) (k m : ℕ) → (b ≡ false → k ≡ m) → when b n k ≡ when b n m
+unfolding when
+exchange n true k m e = refl
+exchange n false k m e = e refl
+
 -- what comes after door and late rungs decides where these pass
 pub ladder-then : (r h c l a m : Bool) (end : Answer) (rest : List (ℕ × Bool)) → told end .number ≡ firstInTurn rest
     → told (lowestOf (lowestOf (doorOf r h c l) (lateOf a m)) end) .number ≡ firstInTurn ((1, r) ∷ (2, h) ∷ (3, c) ∷ (4, l) ∷ (5, a) ∷ (6, m) ∷ rest)

@@ -5,7 +5,7 @@ use mathlib.Core.Logic.{⊎-elim}
 use mathlib.Core.Bool.{Bool, true, false, not, _&&_, _||_}
 use mathlib.Core.List.{List, [], _∷_, _++_, append-assoc, append-nil}
 use native.Mathlib.Omega.{arith}
-use native.Mathlib.Nat.{mod-lt, mod-eq-of-lt, mod-self, mod-add-mod, add-zero}
+use native.Mathlib.Nat.{mod-lt, mod-eq-of-lt, mod-add-mod, add-zero}
 use lib.Dec.{ltb, eqb}
 use lib.ListN.{length, take, drop, length-take, length-drop, length-append, take-append-drop, drop-of-length-le}
 use lib.Seq.{take-all, take-take, take-add, drop-drop, drop-at, length-take-le}
@@ -33,7 +33,8 @@ use Rattle.txbuf.specs.Flush.{pieceLen, firstPiece, takenBy, overBy, end
 use Rattle.txbuf.specs.Promises.{TakesOldest, FlushTakesOldest, FlushProgresses, FirstPieceIsOldest, PiecesAreHeld}
 use Rattle.txbuf.specs.declared.record.TxBuf.{TxBuf}
 use Rattle.txbuf.specs.declared.flush.Flushed.{Flushed}
-use Rattle.txbuf.proofs.RecordLaws.{Sound, sound-says, is-sound, held-length}
+use Rattle.txbuf.proofs.RecordLaws.{Sound, sound-says, is-sound, held-length, next-length}
+use Rattle.txbuf.proofs.AnswerLaws.{flush-told}
 use Rattle.txbuf.proofs.RingLaws.{held-cong, held-run, held-take, held-drop}
 
 -- ---- a ring with bytes taken from its tail
@@ -649,13 +650,6 @@ count-small i left e = rw (ap (λ (o : FlushLeft). o .count) e) (count-within i)
 
 -- ---- the promises
 
-flush-told : (i : FlushIn) → flushOf i .answer ≡ told (flushAnswer i)
-flush-told i =
-    ⊎-elim
-    (λ (t : isDone (flushAnswer i) ≡ true). let d = is-done (flushAnswer i) t in rw (flush-is-done i d, done-at i (flushCount i) refl) (ap told (sym d)))
-    (λ (t : isDone (flushAnswer i) ≡ false). rw (← flush-refused i (flushAnswer i) refl t))
-    (true-or-false (isDone (flushAnswer i)))
-
 -- for callers: the answer behind what is told
 pub flush-answer : (i : FlushIn) (left : FlushLeft) (a : Answer) → FlushSays i left → told a ≡ left .answer → a ≡ flushAnswer i
 flush-answer i left a says e = told-tells-apart a (flushAnswer i) (e ∙ ap (λ (o : FlushLeft). o .answer) says ∙ flush-told i)
@@ -731,25 +725,6 @@ piece-small b st =
     rw t (simp length-take (omega arith)))
     (λ (t : soundOf b (length st) ≡ false). rw t zero-le)
     (true-or-false (soundOf b (length st)))
-
--- a piece that leaves something ends at the storage's end, so the next starts at the front
-next-offset : (t k size : ℕ) → 0 < size → k ≡ size - t % size → (t + k) % size ≡ 0
-next-offset t k size l e =
-    let m = mod-lt t l in
-    let z : t % size + k ≡ size = omega arith in
-    sym (mod-add-mod t size k) ∙ ap (λ (x : ℕ). x % size) z ∙ mod-self size
-
--- and it offers all that is left
-next-length : (size t t' n : ℕ) → 0 < size → n ≤ size → t' % size ≡ (t + pieceLen size t n) % size → pieceLen size t' (n - pieceLen size t n) ≡ n - pieceLen size t n
-next-length size t t' n l h e =
-    let m = mod-lt t l in
-    ⊎-elim
-    (λ (x : size - t % size < n).
-    let k : pieceLen size t n ≡ size - t % size = omega arith in
-    let z : t' % size ≡ 0 = e ∙ next-offset t (pieceLen size t n) size l k in
-    omega arith)
-    (λ (x : n ≤ size - t % size). omega arith)
-    (lt-or-ge (size - t % size) n)
 
 pub pieces-are-held : PiecesAreHeld
 unfolding secondPiece

@@ -10,12 +10,16 @@ use Rattle.txbuf.specs.Push.{runs, pushAnswer, pushDone, pushKept, pushO
 use Rattle.txbuf.specs.Flush.{firstPiece, takenBy, overBy, endsBy, flushCount, flushOver, flushAnswer, secondPiece, flushDone, flushKept, flushOf}
 use Rattle.txbuf.specs.Edges.{readingBCD, readingF}
 use Rattle.txbuf.specs.Promises.{TwoRunsAreOneWrite, HeldIsCounted, PushAppends, FirstPieceIsOldest, PiecesAreHeld, FlushTakesOldest, FlushProgresses, EdgesHold}
-use Rattle.txbuf.specs.Answers.{PushAnswers, FlushAnswers}
+use Rattle.txbuf.specs.Answers.{PushAnswers, NumberedAnswers, FlushAnswers, NewAnswers, LookAnswers}
+use Rattle.txbuf.specs.Means.{SoundMeans}
 use Rattle.txbuf.proofs.AnswerLaws as answers
 use Rattle.txbuf.proofs.RecordLaws as records
 use Rattle.txbuf.proofs.RingLaws as rings
 use Rattle.txbuf.proofs.PushLaws as pushes
 use Rattle.txbuf.proofs.FlushLaws as flushes
+
+pub sound-means : SoundMeans
+sound-means = records.sound-means
 
 pub two-runs-are-one-write : TwoRunsAreOneWrite
 two-runs-are-one-write = rings.two-runs
@@ -41,8 +45,17 @@ flush-progresses = flushes.flush-progresses
 pub push-answers : PushAnswers
 push-answers = answers.push-answers
 
+pub numbered-answers : NumberedAnswers
+numbered-answers = answers.numbered-answers
+
 pub flush-answers : FlushAnswers
 flush-answers = answers.flush-answers
+
+pub new-answers : NewAnswers
+new-answers = answers.new-answers
+
+pub look-answers : LookAnswers
+look-answers = answers.look-answers
 
 pub edges-hold : EdgesHold
 unfolding when isDone whenDone isRingSize isPacketLength doorOf lateOf lowestOf copied soundRecord soundOf recordAnswer heldFrom held runs pushAnswer pushDone pushKept pushOf firstPiece takenBy overBy endsBy flushCount flushOver flushAnswer secondPiece flushDone flushKept flushOf readingBCD readingF

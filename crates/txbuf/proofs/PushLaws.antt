@@ -16,8 +16,8 @@ use Rattle.defs.specs.Wrapping.{wadd, wsub}
 use Rattle.defs.specs.Copying.{copied}
 use Rattle.defs.specs.declared.answer.Answer.{Answer}
 use Rattle.defs.specs.declared.answer.Answer.the-variants.{Done, TxBufFull}
-use Rattle.defs.proofs.Basics.{lt-or-ge, true-or-false}
-use Rattle.defs.proofs.AnswerLaws.{NotDone, not-done, is-done, when-done, when-not-done, told-tells-apart}
+use Rattle.defs.proofs.Basics.{lt-or-ge}
+use Rattle.defs.proofs.AnswerLaws.{NotDone, not-done, when-done, when-not-done, told-tells-apart}
 use Rattle.defs.proofs.LadderLaws.{lowest-passed, door-passed}
 use Rattle.defs.proofs.LimitLaws.{packet-length}
 use Rattle.defs.proofs.WrappingLaws.{keeps-place}
@@ -26,6 +26,7 @@ use Rattle.txbuf.specs.Push.{runs, written, PushIn, PushLeft, pushAnswer
 use Rattle.txbuf.specs.Promises.{PushAppends}
 use Rattle.txbuf.specs.declared.record.TxBuf.{TxBuf}
 use Rattle.txbuf.proofs.RecordLaws.{Sound, sound-says, is-sound}
+use Rattle.txbuf.proofs.AnswerLaws.{push-told}
 use Rattle.txbuf.proofs.RingLaws.{write-cong, held-write, two-runs}
 
 -- ---- the code's two copies
@@ -124,15 +125,6 @@ push-done-appends i wide d =
     (ap (λ (n : ℕ). heldFrom (runs st (b .head % b .size) src) (b .size) (b .tail) n) u
     ∙ ap (λ (y : List ℕ). heldFrom y (b .size) (b .tail) (usedOf b + length src)) x
     ∙ held-write (b .size) src st (b .tail) (usedOf b) (omega arith) w)
-
--- an outcome that is told as done comes of an answer that is Done
-push-told : (i : PushIn) → pushOf i .answer ≡ told (pushAnswerOf i)
-unfolding pushOf pushDone pushKept
-push-told i =
-    ⊎-elim
-    (λ (t : isDone (pushAnswerOf i) ≡ true). let d = is-done (pushAnswerOf i) t in rw (when-done (pushAnswerOf i) (pushDone i) (pushKept i) d) (ap told (sym d)))
-    (λ (t : isDone (pushAnswerOf i) ≡ false). rw (when-not-done (pushAnswerOf i) (pushDone i) (pushKept i) t))
-    (true-or-false (isDone (pushAnswerOf i)))
 
 pub push-appends : PushAppends
 push-appends i left wide says e =

@@ -1,19 +1,35 @@
 -- Laws of the ring's record: what soundness says, and what is held. Assumes nothing.
 use Prim.Native.Nat.{ℕ, zero, suc, _+_, _-_, _%_, _<_, _≤_, min}
-use mathlib.Core.Path.{_≡_, refl, ap}
+use mathlib.Core.Path.{_≡_, refl, sym, ap, _∙_}
+use mathlib.Core.Logic.{⊎-elim}
 use mathlib.Core.Bool.{true}
 use mathlib.Core.List.{List}
 use native.Mathlib.Omega.{arith}
-use native.Mathlib.Nat.{mod-lt}
+use native.Mathlib.Nat.{mod-lt, mod-self, mod-add-mod}
 use mir.Val.{Fits}
 use mir.Syntax.{w64}
 use lib.ListN.{length}
 use borrow.Author.Tests.{leb-true, eqb-true, le-leb, eq-eqb}
 use Rattle.defs.specs.Limits.{minRing, maxRing, isRingSize}
-use Rattle.defs.proofs.Basics.{both}
-use Rattle.defs.proofs.LimitLaws.{ring-size}
+use Rattle.defs.proofs.Basics.{both, lt-or-ge}
+use Rattle.defs.specs.Promises.{Exactly}
+use Rattle.defs.proofs.LimitLaws.{ring-size, ring-sizes}
+use Rattle.defs.proofs.MeansLaws.{and-means, within-means, equal-means}
 use Rattle.txbuf.specs.Record.{usedOf, soundRecord, soundOf, heldFrom, held}
+use Rattle.txbuf.specs.Flush.{pieceLen}
+use Rattle.txbuf.specs.Means.{Sound as RingSound, SoundMeans}
 use Rattle.txbuf.specs.declared.record.TxBuf.{TxBuf}
+
+pub sound-means : SoundMeans
+unfolding soundRecord soundOf
+sound-means = record { alone = alone; over = λ b storage. and-means (alone b) (equal-means storage (b .size)) }
+  where
+    alone : (b : TxBuf) → Exactly (soundRecord b ≡ true) (RingSound b)
+    alone b =
+        let m = and-means (ring-sizes (b .size)) (within-means (usedOf b) (b .size)) in (
+          λ e. let p = m .0 e in record { power = p .0 .0; least = p .0 .1; most = p .0 .2; within = p .1 },
+          λ s. m .1 ((s .power, s .least, s .most), s .within),
+        )
 
 -- what soundness says, over a storage of n bytes
 pub record Sound (b : TxBuf) (n : ℕ) : Type 0 where
@@ -54,3 +70,24 @@ held-from-length store size t (suc n) = ap suc (held-from-length store size (suc
 pub held-length : (b : TxBuf) (store : List ℕ) → length (held b store) ≡ usedOf b
 unfolding held
 held-length b store = held-from-length store (b .size) (b .tail) (usedOf b)
+
+-- ---- the second piece
+
+-- a piece that leaves something ends at the storage's end, so the next starts at the front
+next-offset : (t k size : ℕ) → 0 < size → k ≡ size - t % size → (t + k) % size ≡ 0
+next-offset t k size l e =
+    let m = mod-lt t l in
+    let z : t % size + k ≡ size = omega arith in
+    sym (mod-add-mod t size k) ∙ ap (λ (x : ℕ). x % size) z ∙ mod-self size
+
+-- and it offers all that is left
+pub next-length : (size t t' n : ℕ) → 0 < size → n ≤ size → t' % size ≡ (t + pieceLen size t n) % size → pieceLen size t' (n - pieceLen size t n) ≡ n - pieceLen size t n
+next-length size t t' n l h e =
+    let m = mod-lt t l in
+    ⊎-elim
+    (λ (x : size - t % size < n).
+    let k : pieceLen size t n ≡ size - t % size = omega arith in
+    let z : t' % size ≡ 0 = e ∙ next-offset t (pieceLen size t n) size l k in
+    omega arith)
+    (λ (x : n ≤ size - t % size). omega arith)
+    (lt-or-ge (size - t % size) n)
