@@ -18,32 +18,32 @@ use Rattle.queue.proofs.QueueLaws.{queue-is-its-list}
 use Rattle.queue.proofs.WalkLaws as walks
 use Rattle.muxer_killq.specs.Queue.{killq, soundQ, items, pack}
 use Rattle.muxer_killq.specs.Sort.{sortByTime}
-use Rattle.muxer_killq.specs.Build.{isDue, itemOf, dueOf, builtFrom, collected, marked, BuildIn, buildAnswer}
+use Rattle.muxer_killq.specs.Build.{isAhead, itemOf, aheadOf, builtFrom, collected, marked, BuildIn, buildAnswer}
 use Rattle.muxer_killq.specs.declared.item.MuxerKillQItem.{MuxerKillQItem}
 use Rattle.muxer_killq.specs.declared.killq.MuxerKillQ.{MuxerKillQ}
 use Rattle.muxer_killq.proofs.QueueLaws.{lawful, clock-passed}
 
 module _ (clock : ℕ) (ports used times : List ℕ) where
-  -- the items that are due from slot i on
+  -- the items whose time is after now, from slot i on
   abbrev rest : ℕ → List MuxerKillQItem
-  rest i = tables.rest (isDue clock) itemOf ports used times i
+  rest i = tables.rest (isAhead clock) itemOf ports used times i
 
   -- a slot that is marked gives its item, another gives none
   pub comes : (i : ℕ) → i < length ports → marked (getD used i 0) clock (getD times i 0) ≡ true → rest i ≡ itemOf (slotAt ports used times i) ∷ rest (i + 1)
   unfolding usedAt
-  comes i h e = tables.rest-yes (isDue clock) itemOf ports used times i h e
+  comes i h e = tables.rest-yes (isAhead clock) itemOf ports used times i h e
 
   pub passes : (i : ℕ) → i < length ports → marked (getD used i 0) clock (getD times i 0) ≡ false → rest i ≡ rest (i + 1)
   unfolding usedAt
-  passes i h e = tables.rest-no (isDue clock) itemOf ports used times i h e
+  passes i h e = tables.rest-no (isAhead clock) itemOf ports used times i h e
 
   module _ (limit : ℕ) where
     -- what a turn keeps
     abbrev pub Kept : MuxerKillQ → ℕ → Type 0
-    Kept q i = walks.Walked lawful limit (dueOf clock (slotsOf ports used times)) rest q i
+    Kept q i = walks.Walked lawful limit (aheadOf clock (slotsOf ports used times)) rest q i
 
     pub kept-start : (q : MuxerKillQ) → q ≡ pack [] limit true → Kept q 0
-    kept-start q e = walks.walk-start lawful _ _ _ q e (tables.rest-all (isDue clock) itemOf ports used times)
+    kept-start q e = walks.walk-start lawful _ _ _ q e (tables.rest-all (isAhead clock) itemOf ports used times)
 
 -- ---- the sort of what was collected
 
@@ -53,8 +53,8 @@ unfolding collected builtFrom
 sorted-collected limit clock slots q r e f =
     f
     ∙ ap (λ (x : MuxerKillQ). holding killq x (sortByTime (items x)) (x .synced)) e
-    ∙ ap (λ (l : List MuxerKillQItem). pack (sortByTime l) limit (leb (length (dueOf clock slots)) limit))
-    (queue-is-its-list killq lawful .packed-items (take limit (dueOf clock slots)) limit (leb (length (dueOf clock slots)) limit))
+    ∙ ap (λ (l : List MuxerKillQItem). pack (sortByTime l) limit (leb (length (aheadOf clock slots)) limit))
+    (queue-is-its-list killq lawful .packed-items (take limit (aheadOf clock slots)) limit (leb (length (aheadOf clock slots)) limit))
 
 -- ---- the refusals
 
@@ -67,13 +67,13 @@ module _ (i : BuildIn) (a : Answer) (e : a ≡ buildAnswer i) (d : a ≡ Done) w
   ready = tables.ready _ _ _ _ _ (isKillqLimit (i .limit)) (lawful .limit-fits (i .limit)) passed
 
   -- what a list of so many items makes
-  pub taken-sound : (l : List MuxerKillQItem) (synced : Bool) (slots : List Slot) → length l ≡ length (take (i .limit) (dueOf (i .clock) slots)) → soundQ (pack l (i .limit) synced) ≡ true
+  pub taken-sound : (l : List MuxerKillQItem) (synced : Bool) (slots : List Slot) → length l ≡ length (take (i .limit) (aheadOf (i .clock) slots)) → soundQ (pack l (i .limit) synced) ≡ true
   taken-sound l synced slots n =
-      queue-is-its-list killq lawful .packed-sound l (i .limit) synced (both (isKillqLimit (i .limit)) _ passed .0) (omega (arith, length-take (i .limit) (dueOf (i .clock) slots)))
+      queue-is-its-list killq lawful .packed-sound l (i .limit) synced (both (isKillqLimit (i .limit)) _ passed .0) (omega (arith, length-take (i .limit) (aheadOf (i .clock) slots)))
 
   pub collected-sound : (q : MuxerKillQ) (slots : List Slot) → q ≡ collected (i .limit) (i .clock) slots → soundQ q ≡ true
   unfolding collected
-  collected-sound q slots f = ap soundQ f ∙ taken-sound (take (i .limit) (dueOf (i .clock) slots)) _ slots refl
+  collected-sound q slots f = ap soundQ f ∙ taken-sound (take (i .limit) (aheadOf (i .clock) slots)) _ slots refl
 
 pub build-answer : (i : BuildIn) (a : Answer) (l s : Bool) → a ≡ clockAnswer (l && s) (i .clock) → l ≡ isKillqLimit (i .limit)
     → s ≡ soundTable (i .ports) (i .used) (length (i .times)) → a ≡ buildAnswer i

@@ -10,7 +10,7 @@ use Rattle.queue.proofs.PopLaws.{pop-sound}
 use Rattle.muxer_killq.specs.Queue.{killq, soundQ, items}
 use Rattle.muxer_killq.specs.Push.{itemAt, pushList}
 use Rattle.muxer_killq.specs.Sort.{sortByTime}
-use Rattle.muxer_killq.specs.Build.{dueOf, builtFrom, BuildIn, buildAnswer, buildOf}
+use Rattle.muxer_killq.specs.Build.{aheadOf, builtFrom, BuildIn, buildAnswer, buildOf}
 use Rattle.muxer_killq.specs.Promises.{SoundStaysSound}
 use Rattle.muxer_killq.proofs.QueueLaws.{lawful}
 use Rattle.muxer_killq.proofs.PushLaws.{push-within}
@@ -21,7 +21,7 @@ built-sound : (i : BuildIn) → buildAnswer i ≡ Done → soundQ (builtFrom (i 
 unfolding builtFrom
 built-sound i d =
     let slots = slotsOf (i .ports) (i .used) (i .times) in
-    taken-sound i _ refl d (sortByTime (take (i .limit) (dueOf (i .clock) slots))) _ slots (sort-length _)
+    taken-sound i _ refl d (sortByTime (take (i .limit) (aheadOf (i .clock) slots))) _ slots (sort-length _)
 
 pub sound-stays-sound : SoundStaysSound
 unfolding buildOf

@@ -17,20 +17,20 @@ use Rattle.muxer_killq.specs.declared.item.MuxerKillQItem.{MuxerKillQIte
 use Rattle.muxer_killq.specs.declared.killq.MuxerKillQ.{MuxerKillQ}
 
 -- a used slot whose time is after now
-abbrev pub isDue : ℕ → Slot → Bool
-isDue clock s = s .used && ltb clock (s .mark)
+abbrev pub isAhead : ℕ → Slot → Bool
+isAhead clock s = s .used && ltb clock (s .mark)
 
 -- the item of a slot
 abbrev pub itemOf : Slot → MuxerKillQItem
 itemOf s = itemAt (s .key) (s .mark)
 
 -- their items, in slot order
-abbrev pub dueOf : ℕ → List Slot → List MuxerKillQItem
-dueOf clock slots = gathered (isDue clock) itemOf slots
+abbrev pub aheadOf : ℕ → List Slot → List MuxerKillQItem
+aheadOf clock slots = gathered (isAhead clock) itemOf slots
 
 -- the first of them, as far as the limit goes, sorted by time; unsynced exactly if there are more
 unfoldable pub builtFrom : ℕ → ℕ → List Slot → MuxerKillQ
-builtFrom limit clock slots = pack (sortByTime (take limit (dueOf clock slots))) limit (leb (length (dueOf clock slots)) limit)
+builtFrom limit clock slots = pack (sortByTime (take limit (aheadOf clock slots))) limit (leb (length (aheadOf clock slots)) limit)
 
 pub record BuildIn : Type 0 where
   pub limit : ℕ
@@ -55,8 +55,8 @@ BuildSays i left = left ≡ buildOf i
 
 -- the same before the sort
 unfoldable pub collected : ℕ → ℕ → List Slot → MuxerKillQ
-collected limit clock slots = pack (take limit (dueOf clock slots)) limit (leb (length (dueOf clock slots)) limit)
+collected limit clock slots = pack (take limit (aheadOf clock slots)) limit (leb (length (aheadOf clock slots)) limit)
 
--- `isDue` on the numbers of a slot
+-- `isAhead` on the numbers of a slot
 abbrev pub marked : ℕ → ℕ → ℕ → Bool
 marked used clock time = not (eqb used 0) && ltb clock time

@@ -12,7 +12,7 @@ use Rattle.muxer_killq.specs.Queue.{pack}
 use Rattle.muxer_killq.specs.Push.{itemAt}
 use Rattle.muxer_killq.specs.Pop.{noKey, popOf}
 use Rattle.muxer_killq.specs.Sort.{sortByTime}
-use Rattle.muxer_killq.specs.Build.{dueOf}
+use Rattle.muxer_killq.specs.Build.{aheadOf}
 use Rattle.muxer_killq.specs.declared.killq.MuxerKillQ.{MuxerKillQ}
 
 -- a queue of limit 1 with one item, at 500
@@ -43,6 +43,6 @@ slots = slot 1 700 ∷ slot 2 500 ∷ slot 3 700 ∷ slot 4 600 ∷ slot 5 700 �
 -- sorted by time, ties in slot order; of too many the first in slot order, though a later slot's time is earlier
 unfoldable pub ties : List Reading
 ties =
-    (sortByTime (dueOf 500 slots) reads itemAt (of 4) 600 ∷ itemAt (of 1) 700 ∷ itemAt (of 3) 700 ∷ itemAt (of 5) 700 ∷ [])
-    ∷ (sortByTime (take 2 (dueOf 500 slots)) reads itemAt (of 1) 700 ∷ itemAt (of 3) 700 ∷ [])
+    (sortByTime (aheadOf 500 slots) reads itemAt (of 4) 600 ∷ itemAt (of 1) 700 ∷ itemAt (of 3) 700 ∷ itemAt (of 5) 700 ∷ [])
+    ∷ (sortByTime (take 2 (aheadOf 500 slots)) reads itemAt (of 1) 700 ∷ itemAt (of 3) 700 ∷ [])
     ∷ []
