@@ -1,4 +1,5 @@
 pub mod Edges
+pub mod OrderLaws
 pub mod SortLaws
 pub mod DistinctLaws
 pub mod TableLaws

@@ -1,10 +1,14 @@
 -- The promises of specs/Promises, each by its law. Assumes nothing.
-use Rattle.conn_map.specs.Promises.{SoundMeansDistinct, EdgesHold, PortsTellKeys}
+use Rattle.conn_map.specs.Promises.{SoundMeans, GatheredInOrder, EdgesHold, PortsTellKeys}
 use Rattle.conn_map.proofs.Edges as edges
+use Rattle.conn_map.proofs.OrderLaws as orders
 use Rattle.conn_map.proofs.TableLaws as tables
 
-pub sound-means-distinct : SoundMeansDistinct
-sound-means-distinct = tables.sound-means-distinct
+pub sound-means : SoundMeans
+sound-means = tables.sound-means
+
+pub gathered-in-order : GatheredInOrder
+gathered-in-order = orders.gathered-in-order
 
 pub edges-hold : EdgesHold
 edges-hold = edges.edges-hold

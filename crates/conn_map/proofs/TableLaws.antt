@@ -6,7 +6,7 @@ use mathlib.Core.List.{List, [], _∷_, map}
 use mathlib.Core.Logic.{⊎-elim}
 use lib.ListN.{length, getD}
 use lib.Dec.{eqb, leb, ltb}
-use borrow.Author.Tests.{eqb-true, eqb-false, eq-eqb, ne-eqb, leb-true, ltb-true, ltb-false}
+use borrow.Author.Tests.{eqb-true, eqb-false, eq-eqb, ne-eqb, le-leb, leb-true, ltb-true, ltb-false}
 use native.Mathlib.Omega.{arith}
 use native.Mathlib.Numerals.{add-one}
 use Rattle.defs.specs.Limits.{minSlots, maxSlots, isSlotCount}
@@ -15,7 +15,7 @@ use Rattle.defs.proofs.Basics.{both, never, true-or-false, or-left}
 use Rattle.defs.proofs.ChoiceLaws.{when-true, when-false}
 use Rattle.conn_map.specs.Key.{keyOf}
 use Rattle.conn_map.specs.Table.{Slot, slotAt, slotsFrom, slotsOf, chosen, gathered, anyBelow, usedAt, hit, distinct, soundTable}
-use Rattle.conn_map.specs.Promises.{PortsTellKeys, NoTwoAlike, SoundMeansDistinct}
+use Rattle.conn_map.specs.Promises.{PortsTellKeys, NoTwoAlike, SoundMeans}
 use Rattle.conn_map.specs.declared.key.ConnMapKey.{ConnMapKey}
 
 pub both-true : (a b : Bool) → a ≡ true → b ≡ true → a && b ≡ true
@@ -99,6 +99,39 @@ module _ (ports used : List ℕ) where
       let b : anyBelow f (length ports) ≡ true = any f (length ports) (c .j) (c .inside) (both-true _ _ (c .used-j) a) in
       ap not b
 
+-- ---- what the test means
+
+pub ports-tell-keys : PortsTellKeys
+unfolding keyOf
+ports-tell-keys a b e =
+    let q : a / 2 ^ 32 ≡ b / 2 ^ 32 = ap (λ (k : ConnMapKey). k .«local_port») e in
+    let r : a % 2 ^ 32 ≡ b % 2 ^ 32 = ap (λ (k : ConnMapKey). k .«peer_port») e in
+    omega arith
+
+distinct-means : (ports used : List ℕ) → Exactly (distinct ports used ≡ true) (NoTwoAlike ports used)
+distinct-means ports used = (
+  λ d i j o h u v k. never (sym (of-clash ports used (record { i = i; j = j; order = o; inside = h; used-i = u; used-j = v; same = ports-tell-keys _ _ k })) ∙ d),
+  λ n.
+      ⊎-elim
+      (λ (d : distinct ports used ≡ true). d)
+      (λ (d : distinct ports used ≡ false).
+      let c = clash-of ports used d in
+      absurd (n (c .i) (c .j) (c .order) (c .inside) (c .used-i) (c .used-j) (ap keyOf (c .same))))
+      (true-or-false (distinct ports used)),
+)
+
+pub sound-means : SoundMeans
+unfolding soundTable isSlotCount
+sound-means ports used marks = (
+  λ e.
+      let a = both (isSlotCount (length ports)) _ e in
+      let n = both (leb minSlots (length ports)) (leb (length ports) maxSlots) (a .0) in
+      let b = both (eqb (length used) (length ports)) _ (a .1) in
+      let d = both (eqb marks (length ports)) _ (b .1) in
+      (leb-true _ _ (n .0), leb-true _ _ (n .1), eqb-true _ _ (b .0), eqb-true _ _ (d .0), distinct-means ports used .0 (d .1)),
+  λ p. rw (le-leb minSlots _ (p .0), le-leb _ maxSlots (p .1), eq-eqb _ _ (p .2), eq-eqb _ _ (p .3), distinct-means ports used .1 (p .4)),
+)
+
 -- ---- the test in the order of the code
 
 module _ (ports used : List ℕ) (marks : ℕ) where
@@ -123,38 +156,6 @@ module _ (ports used : List ℕ) (marks : ℕ) where
 pub slots-fit : (slots : ℕ) → isSlotCount slots ≡ true → slots ≤ maxSlots
 unfolding isSlotCount
 slots-fit slots e = leb-true slots maxSlots (both (leb minSlots slots) _ e .1)
-
--- ---- what the test means
-
-pub ports-tell-keys : PortsTellKeys
-unfolding keyOf
-ports-tell-keys a b e =
-    let q : a / 2 ^ 32 ≡ b / 2 ^ 32 = ap (λ (k : ConnMapKey). k .«local_port») e in
-    let r : a % 2 ^ 32 ≡ b % 2 ^ 32 = ap (λ (k : ConnMapKey). k .«peer_port») e in
-    omega arith
-
-distinct-means : (ports used : List ℕ) → Exactly (distinct ports used ≡ true) (NoTwoAlike ports used)
-distinct-means ports used = (
-  λ d i j o h u v k. never (sym (of-clash ports used (record { i = i; j = j; order = o; inside = h; used-i = u; used-j = v; same = ports-tell-keys _ _ k })) ∙ d),
-  λ n.
-      ⊎-elim
-      (λ (d : distinct ports used ≡ true). d)
-      (λ (d : distinct ports used ≡ false).
-      let c = clash-of ports used d in
-      absurd (n (c .i) (c .j) (c .order) (c .inside) (c .used-i) (c .used-j) (ap keyOf (c .same))))
-      (true-or-false (distinct ports used)),
-)
-
-pub sound-means-distinct : SoundMeansDistinct
-unfolding soundTable
-sound-means-distinct ports used marks = (
-  λ e.
-      let a = both (isSlotCount (length ports)) _ e in
-      let b = both (eqb (length used) (length ports)) _ (a .1) in
-      let d = both (eqb marks (length ports)) _ (b .1) in
-      (a .0, eqb-true _ _ (b .0), eqb-true _ _ (d .0), distinct-means ports used .0 (d .1)),
-  λ p. rw (p .0, eq-eqb _ _ (p .1), eq-eqb _ _ (p .2), distinct-means ports used .1 (p .3)),
-)
 
 -- ---- a walk over the slots
 
@@ -195,5 +196,5 @@ pub ready : (most limit : ℕ) (ports used marks : List ℕ) (limited : Bool) �
     → Ready most limit ports used marks
 ready most limit ports used marks limited fits e =
     let p = both limited _ e in
-    let s = sound-means-distinct ports used (length marks) .0 (p .1) in
-    record { in-range = fits (p .0); used-long = s .1; marks-long = s .2 }
+    let s = sound-means ports used (length marks) .0 (p .1) in
+    record { in-range = fits (p .0); used-long = s .2; marks-long = s .3 }

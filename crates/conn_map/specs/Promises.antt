@@ -1,26 +1,34 @@
 -- What this crate promises, in statements only; proofs/Promises has a line for each. Assumes nothing.
-use Prim.Native.Nat.{ℕ, _<_}
+use Prim.Native.Nat.{ℕ, _≤_, _<_}
 use mathlib.Core.Path.{_≡_}
-use mathlib.Core.Bool.{true}
+use mathlib.Core.Bool.{Bool, true}
 use mathlib.Core.List.{List}
 use lib.ListN.{length, getD}
-use Rattle.defs.specs.Limits.{isSlotCount}
 use Rattle.defs.specs.Promises.{Exactly}
 use Rattle.defs.specs.Reading.{Hold}
 use Rattle.conn_map.specs.Key.{keyOf}
 use Rattle.conn_map.specs.Edges.{lastPair, farPair, sameMark}
-use Rattle.conn_map.specs.Table.{usedAt, soundTable}
+use Rattle.conn_map.specs.Table.{Slot, usedAt, slotAt, slotsOf, gathered, soundTable}
+use Rattle.conn_map.specs.Order.{InSlotOrder}
 
 -- 01: no two used slots have the same ports
 abbrev pub NoTwoAlike : List ℕ → List ℕ → Type 0
 NoTwoAlike ports used =
     (i j : ℕ) → i < j → j < length ports → usedAt used i ≡ true → usedAt used j ≡ true → keyOf (getD ports i 0) ≡ keyOf (getD ports j 0) → ⊥
 
--- the test of a table says what 01 says: the slot count in range, the slices equally long, no two used slots with the same ports
-abbrev pub SoundMeansDistinct : Type 0
-SoundMeansDistinct =
+-- the test of a table says what 01 says: 1 to 512 slots, the slices equally long, no two used slots with the same ports
+abbrev pub SoundMeans : Type 0
+SoundMeans =
     (ports used : List ℕ) (marks : ℕ)
-    → Exactly (soundTable ports used marks ≡ true) ((isSlotCount (length ports) ≡ true) × (length used ≡ length ports) × (marks ≡ length ports) × NoTwoAlike ports used)
+    → Exactly (soundTable ports used marks ≡ true)
+    ((1 ≤ length ports) × (length ports ≤ 512) × (length used ≡ length ports) × (marks ≡ length ports) × NoTwoAlike ports used)
+
+-- what the slots that pass a test give is in slot order
+abbrev pub GatheredInOrder : Type 1
+GatheredInOrder =
+    (A : Type 0) (test : Slot → Bool) (make : Slot → A) (nothing : A) (ports used marks : List ℕ)
+    → InSlotOrder (length ports) (λ (i : ℕ). test (slotAt ports used marks i)) (λ (i : ℕ). make (slotAt ports used marks i)) nothing
+    (gathered test make (slotsOf ports used marks))
 
 -- the edges of the test, computed
 pub record EdgesHold : Type 0 where

@@ -54,7 +54,7 @@ anyBelow f (suc n) = f n || anyBelow f n
 unfoldable pub hit : List ℕ → List ℕ → ℕ → ℕ → Bool
 hit ports used key i = usedAt used i && eqb (getD ports i 0) key
 
--- no two used slots have the same ports (its meaning: `SoundMeansDistinct` of Promises)
+-- no two used slots have the same ports (its meaning: `SoundMeans` of Promises)
 unfoldable pub distinct : List ℕ → List ℕ → Bool
 distinct ports used =
     not (anyBelow (λ (j : ℕ). usedAt used j && anyBelow (hit ports used (getD ports j 0)) j) (length ports))
