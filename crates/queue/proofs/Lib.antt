@@ -1,6 +1,7 @@
 pub mod Edges
 pub mod PlacesLaws
 pub mod QueueLaws
+pub mod EveryLaws
 pub mod QueuedLaws
 pub mod LookLaws
 pub mod PopLaws

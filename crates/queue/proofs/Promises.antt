@@ -1,6 +1,7 @@
 -- The promises of specs/Promises, each by its law. Assumes nothing.
-use Rattle.queue.specs.Promises.{EveryQueueIsItsList, SoundStaysSound, EdgesHold}
+use Rattle.queue.specs.Promises.{EveryQueueIsItsList, SoundStaysSound, EverySoundMeans, EveryMadeIsEmpty, RefusalsChangeNothing, EveryPeekMeans, EveryPopMeans, EdgesHold}
 use Rattle.queue.proofs.Edges as edges
+use Rattle.queue.proofs.EveryLaws as every
 use Rattle.queue.proofs.QueueLaws as queues
 
 pub every-queue-is-its-list : EveryQueueIsItsList
@@ -8,6 +9,21 @@ every-queue-is-its-list Q A k w = queues.queue-is-its-list k w
 
 pub sound-stays-sound : SoundStaysSound
 sound-stays-sound Q A k w = queues.sound-stays-sound k w
+
+pub every-sound-means : EverySoundMeans
+every-sound-means Q A k w = every.sound-means k (w .zero-passes) (w .zero-alone)
+
+pub every-made-is-empty : EveryMadeIsEmpty
+every-made-is-empty = record { done = λ Q A k w. every.new-empty k w; refused = λ Q A k w. every.refused-empty k w }
+
+pub refusals-change-nothing : RefusalsChangeNothing
+refusals-change-nothing Q A k q = every.refusals-keep k q
+
+pub every-peek-means : EveryPeekMeans
+every-peek-means Q A k w q left e g = every.peek-means k w q g left e
+
+pub every-pop-means : EveryPopMeans
+every-pop-means Q A G k w nothing due give Due says q left e g = every.pop-means k w q g nothing due give Due says left e
 
 pub edges-hold : EdgesHold
 edges-hold = edges.edges-hold

@@ -1,22 +1,22 @@
 -- A sound queue is the packing of its items; what a call does to the places of one, as what it does to the list. Assumes nothing.
-use Prim.Native.Nat.{ℕ, _+_, _-_, _≤_, _<_}
+use Prim.Native.Nat.{ℕ, _+_, _≤_, _<_}
 use mathlib.Core.Path.{_≡_, ap, sym, _∙_}
 use mathlib.Core.Bool.{Bool, true, _&&_}
 use mathlib.Core.List.{List, [], _∷_, _++_}
 use native.Mathlib.Omega.{arith}
 use borrow.Author.Tests.{le-leb, leb-true, ltb-true}
 use lib.Dec.{leb, ltb}
-use lib.ListN.{length, getD, take, drop, set, length-append, length-drop, length-take, length-set}
+use lib.ListN.{length, getD, take, drop, set, length-append, length-take, length-set}
 use lib.Seq.{length-take-le}
 use Rattle.defs.specs.Ladder.{recordAnswer}
 use Rattle.defs.specs.declared.answer.Answer.{Answer}
 use Rattle.defs.specs.declared.answer.Answer.the-variants.{Done}
 use Rattle.defs.proofs.Basics.{both}
 use Rattle.defs.proofs.LadderLaws.{record-passed}
-use Rattle.queue.specs.Queue.{Queue, Kind, Lawful, padded, clearQ, soundQ, items, pack, holding, frontGone}
+use Rattle.queue.specs.Queue.{Queue, Kind, Lawful, padded, clearQ, soundQ, items, pack, holding}
 use Rattle.queue.specs.Queued.{hasRoom}
 use Rattle.queue.specs.Promises.{QueueIsItsList}
-use Rattle.queue.proofs.PlacesLaws.{places-are, items-of, places-append, places-set, places-pop, places-rearranged, places-clear, front-held}
+use Rattle.queue.proofs.PlacesLaws.{places-are, items-of, places-append, places-set, places-rearranged, places-clear, front-held}
 
 -- what soundness says of a queue whose array is as long as its type says
 pub record Sound {Q A : Type 0} (k : Kind Q A) (q : Q) : Type 0 where
@@ -32,7 +32,7 @@ module _ {Q A : Type 0} (k : Kind Q A) where
   packs places l len limit synced e f = rw (e, f)
 
   -- the limit of a sound queue, its length within it, and the places past that
-  parts : (q : Q) → soundQ k q ≡ true → (k .isLimit (k .seen q .limit) ≡ true) × (k .seen q .len ≤ k .seen q .limit) × (clearQ k q ≡ true)
+  pub parts : (q : Q) → soundQ k q ≡ true → (k .isLimit (k .seen q .limit) ≡ true) × (k .seen q .len ≤ k .seen q .limit) × (clearQ k q ≡ true)
   unfolding soundQ
   parts q e =
       let u = both (k .isLimit (k .seen q .limit) && leb (k .seen q .len) (k .seen q .limit)) (clearQ k q) e in
@@ -61,7 +61,7 @@ module _ {Q A : Type 0} (k : Kind Q A) where
     pub sound-past : (q : Q) (a : Answer) → a ≡ recordAnswer (soundQ k q) → a ≡ Done → length (k .seen q .places) ≡ k .size → Sound k q
     sound-past q a e d n = sound-says q n (record-passed a (soundQ k q) e d)
 
-    packed : (l : List A) (limit : ℕ) (synced : Bool)
+    pub packed : (l : List A) (limit : ℕ) (synced : Bool)
         → k .seen (pack k l limit synced) ≡ record { places = padded (k .size) (k .zeroItem) l; len = length l; limit = limit; synced = synced }
     packed l limit synced = w .forth _
 
@@ -87,9 +87,6 @@ module _ {Q A : Type 0} (k : Kind Q A) where
 
     pub sound-stays-sound : (q : Q) (l : List A) (synced : Bool) → soundQ k q ≡ true → length l ≤ k .seen q .limit → soundQ k (holding k q l synced) ≡ true
     sound-stays-sound q l synced e h = packed-sound l (k .seen q .limit) synced (parts q e .0) h
-
-    pub gone-sound : (q : Q) → soundQ k q ≡ true → soundQ k (frontGone k q) ≡ true
-    gone-sound q e = sound-stays-sound q (drop 1 (items k q)) (k .seen q .synced) e (let h = items-within q e in omega (arith, length-drop 1 (items k q)))
 
 -- where there is room, a list with one item more is within the limit
 pub append-within : {A : Type 0} (l : List A) (x : A) (limit : ℕ) (synced : Bool) → hasRoom synced (length l) limit ≡ true → length (l ++ (x ∷ [])) ≤ limit
@@ -136,27 +133,6 @@ module _ {Q A : Type 0} {k : Kind Q A} (q : Q) (s : Sound k q) where
       ∙ ap (λ (n : ℕ). l ++ drop n (padded (k .size) (k .zeroItem) (items k q))) (sym (s .held))
       ∙ places-rearranged (k .size) (k .zeroItem) (items k q) l (e ∙ sym (s .held))
 
-  module _ (h : 0 < k .seen q .len) where
-    -- the front item
-    pub front-first : items k q ≡ getD (k .seen q .places) 0 (k .zeroItem) ∷ drop 1 (items k q)
-    front-first = front-held (k .zeroItem) (k .seen q .places) (k .seen q .len) h (omega (arith, s .held, length-take (k .seen q .len) (k .seen q .places)))
-
-    -- the places moved up, the freed one zero
-    pub front-dropped : (z : A) → z ≡ k .zeroItem
-        → k .made (record {
-          places = set (take (k .seen q .len - 1) (drop 1 (k .seen q .places)) ++ drop (k .seen q .len - 1) (k .seen q .places)) (k .seen q .len - 1) z;
-          len = k .seen q .len - 1;
-          limit = k .seen q .limit;
-          synced = k .seen q .synced;
-        })
-        ≡ frontGone k q
-    front-dropped z e =
-        let x : A = getD (k .seen q .places) 0 (k .zeroItem) in
-        let rest : List A = drop 1 (items k q) in
-        let n : k .seen q .len - 1 ≡ length rest = omega (arith, s .held, length-drop 1 (items k q)) in
-        let p : k .seen q .places ≡ padded (k .size) (k .zeroItem) (x ∷ rest) = s .cleared ∙ ap (padded (k .size) (k .zeroItem)) front-first in
-        packs k _ rest _ (k .seen q .limit) (k .seen q .synced) n
-        (ap (λ (y : A). set (take (k .seen q .len - 1) (drop 1 (k .seen q .places)) ++ drop (k .seen q .len - 1) (k .seen q .places)) (k .seen q .len - 1) y) e
-        ∙ ap (λ (l : List A). set (take (k .seen q .len - 1) (drop 1 l) ++ drop (k .seen q .len - 1) l) (k .seen q .len - 1) (k .zeroItem)) p
-        ∙ ap (λ (m : ℕ). set (take m (drop 1 (padded (k .size) (k .zeroItem) (x ∷ rest))) ++ drop m (padded (k .size) (k .zeroItem) (x ∷ rest))) m (k .zeroItem)) n
-        ∙ places-pop (k .size) (k .zeroItem) x rest (omega (arith, n, s .most, s .within)))
+  -- the front item
+  pub front-first : 0 < k .seen q .len → items k q ≡ getD (k .seen q .places) 0 (k .zeroItem) ∷ drop 1 (items k q)
+  front-first h = front-held (k .zeroItem) (k .seen q .places) (k .seen q .len) h (omega (arith, s .held, length-take (k .seen q .len) (k .seen q .places)))

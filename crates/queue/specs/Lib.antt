@@ -2,5 +2,6 @@ pub mod Queue
 pub mod Queued
 pub mod Look
 pub mod Pop
+pub mod Means
 pub mod Edges
 pub mod Promises

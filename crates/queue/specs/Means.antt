@@ -27,10 +27,10 @@ module _ {Q A : Type 0} (k : Kind Q A) where
   Given q = (length (k .seen q .places) ≡ k .size) × (soundQ k q ≡ true)
 
   -- an empty, synced queue of a limit: all its places hold the zero item
-  pub record EmptyOf (limit : ℕ) (q : Q) : Type 0 where
+  pub record EmptyOf (bound : ℕ) (q : Q) : Type 0 where
     pub places : (length (k .seen q .places) ≡ k .size) × ((n : ℕ) → placeOf q n ≡ k .zeroItem)
     pub len : k .seen q .len ≡ 0
-    pub limit : k .seen q .limit ≡ limit
+    pub limit : k .seen q .limit ≡ bound
     pub synced : k .seen q .synced ≡ true
 
   -- ---- a push

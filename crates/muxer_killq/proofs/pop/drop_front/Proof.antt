@@ -6,7 +6,8 @@ use borrow.Author.Needs.{needs}
 use lib.ListN.{length, take, drop}
 use Rattle.defs.specs.Limits.{maxKillq}
 use Rattle.queue.proofs.PlacesLaws.{long, shift-more}
-use Rattle.queue.proofs.QueueLaws.{Sound, sound-says, front-dropped}
+use Rattle.queue.proofs.QueueLaws.{Sound, sound-says}
+use Rattle.queue.proofs.PopLaws.{front-dropped}
 use Rattle.muxer_killq.specs.Item.{zeroItem}
 use Rattle.muxer_killq.specs.Queue.{killq}
 use Rattle.muxer_killq.proofs.QueueLaws.{lawful}

@@ -6,7 +6,8 @@ use borrow.Author.Needs.{needs}
 use lib.ListN.{length, take, drop}
 use Rattle.defs.specs.Limits.{maxRxq}
 use Rattle.queue.proofs.PlacesLaws.{long, shift-more}
-use Rattle.queue.proofs.QueueLaws.{Sound, sound-says, front-dropped}
+use Rattle.queue.proofs.QueueLaws.{Sound, sound-says}
+use Rattle.queue.proofs.PopLaws.{front-dropped}
 use Rattle.muxer_rxq.specs.Queue.{zeroItem, rxq}
 use Rattle.muxer_rxq.proofs.QueueLaws.{lawful}
 use Rattle.muxer_rxq.proofs.pop.drop_front.Statement.{statement}
