@@ -1,5 +1,6 @@
 pub mod Edges
 pub mod QueueLaws
+pub mod OutcomeLaws
 pub mod PushLaws
 pub mod BuildLaws
 pub mod SoundLaws

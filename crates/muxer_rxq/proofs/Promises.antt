@@ -1,8 +1,11 @@
--- The promises of specs/Promises, each by its law. Assumes nothing.
+-- The promises of specs/Promises and specs/Outcomes, each by its law. Assumes nothing.
 use Rattle.queue.proofs.QueueLaws as queues
 use Rattle.muxer_rxq.specs.Queue.{rxq}
 use Rattle.muxer_rxq.specs.Promises.{QueueIsItsList, SoundStaysSound, PushAnswers, EdgesHold}
+use Rattle.muxer_rxq.specs.Outcomes.{SoundMeans, RefusalsChangeNothing, RefusedIsEmpty, EveryNewIsEmpty, BuiltHolds, EveryLastConnMeans, EveryPushMeans, EveryPeekMeans, EveryPopMeans}
 use Rattle.muxer_rxq.proofs.Edges as edges
+use Rattle.muxer_rxq.proofs.OutcomeLaws as outcomes
+use Rattle.muxer_rxq.proofs.QueueLaws as laws
 use Rattle.muxer_rxq.proofs.QueueLaws.{lawful}
 use Rattle.muxer_rxq.proofs.PushLaws as pushes
 use Rattle.muxer_rxq.proofs.SoundLaws as sounds
@@ -15,6 +18,33 @@ sound-stays-sound = sounds.sound-stays-sound
 
 pub push-answers : PushAnswers
 push-answers = pushes.push-answers
+
+pub sound-means : SoundMeans
+sound-means = laws.sound-means
+
+pub refusals-change-nothing : RefusalsChangeNothing
+refusals-change-nothing = outcomes.refusals-change-nothing
+
+pub refused-is-empty : RefusedIsEmpty
+refused-is-empty = outcomes.refused-is-empty
+
+pub every-new-is-empty : EveryNewIsEmpty
+every-new-is-empty = outcomes.every-new-is-empty
+
+pub built-holds : BuiltHolds
+built-holds = outcomes.built-holds
+
+pub every-last-conn-means : EveryLastConnMeans
+every-last-conn-means = outcomes.every-last-conn-means
+
+pub every-push-means : EveryPushMeans
+every-push-means = outcomes.every-push-means
+
+pub every-peek-means : EveryPeekMeans
+every-peek-means = outcomes.every-peek-means
+
+pub every-pop-means : EveryPopMeans
+every-pop-means = outcomes.every-pop-means
 
 pub edges-hold : EdgesHold
 edges-hold = edges.edges-hold

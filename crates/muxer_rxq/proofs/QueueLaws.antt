@@ -1,13 +1,16 @@
--- The RX queue is lawful as a queue: its test finds just the zero item, its limits have their places. Assumes nothing.
+-- What the test of the RX queue means, and that it is lawful as a queue: its test finds just the zero item, its limits have their places. Assumes nothing.
 use Prim.Native.Nat.{ℕ, _≤_}
 use mathlib.Core.Path.{_≡_, refl}
 use mathlib.Core.Bool.{true, false, not}
-use borrow.Author.Tests.{eqb-true, leb-true, not-true}
+use borrow.Author.Tests.{eqb-true, le-leb, leb-true, not-true}
 use lib.Dec.{leb}
 use Rattle.defs.specs.Limits.{minRxq, maxRxq, isRxqLimit}
+use Rattle.defs.specs.Promises.{Exactly}
 use Rattle.defs.proofs.Basics.{both}
 use Rattle.queue.specs.Queue.{Lawful}
+use Rattle.queue.proofs.EveryLaws as every
 use Rattle.muxer_rxq.specs.Queue.{zeroItem, isZero, rxq}
+use Rattle.muxer_rxq.specs.Outcomes.{SoundMeans}
 use Rattle.muxer_rxq.specs.declared.rxq.MuxerRx.{MuxerRx}
 
 zero-alone : (it : MuxerRx) → isZero it ≡ true → it ≡ zeroItem
@@ -20,10 +23,18 @@ zero-alone it e =
     let d : it .«peer_port» ≡ 0 = eqb-true _ _ (u .1) in
     λ i. record { rst = a i; «local_port» = b i; «peer_port» = d i }
 
-limit-fits : (limit : ℕ) → isRxqLimit limit ≡ true → limit ≤ maxRxq
+-- Q is from 1 to 256
+in-range : (limit : ℕ) → Exactly (isRxqLimit limit ≡ true) ((1 ≤ limit) × (limit ≤ 256))
 unfolding isRxqLimit
-limit-fits limit e = leb-true _ _ (both (leb minRxq limit) (leb limit maxRxq) e .1)
+in-range limit = (
+  λ e. (let p = both (leb minRxq limit) (leb limit maxRxq) e in (leb-true _ _ (p .0), leb-true _ _ (p .1))),
+  λ p. rw (le-leb minRxq limit (p .0), le-leb limit maxRxq (p .1)),
+)
+
+pub sound-means : SoundMeans
+unfolding isZero
+sound-means = every.sound-means rxq refl zero-alone 1 256 in-range
 
 pub lawful : Lawful rxq
 unfolding isZero
-lawful = record { back = λ q. refl; forth = λ q. refl; zero-passes = refl; zero-alone = zero-alone; limit-fits = limit-fits }
+lawful = record { back = λ q. refl; forth = λ q. refl; zero-passes = refl; zero-alone = zero-alone; limit-fits = λ limit e. in-range limit .0 e .1 }

@@ -1,14 +1,15 @@
--- The reading of 01 that the RX queue decides: j (Q = 2). Assumes nothing.
-use Prim.Native.Nat.{ℕ}
+-- The reading of 01 that the RX queue decides, j (Q = 2); and a build with as many slots pending as the limit, and with one more. Assumes nothing.
+use Prim.Native.Nat.{ℕ, _+_, _*_, _^_}
 use mathlib.Core.Bool.{Bool, true, false}
 use mathlib.Core.List.{List, [], _∷_}
 use Rattle.defs.specs.Answer.{told}
 use Rattle.defs.specs.Reading.{Reading, _reads_}
-use Rattle.defs.specs.declared.answer.Answer.the-variants.{Done, NotQueued}
+use Rattle.defs.specs.declared.answer.Answer.the-variants.{Done, BadRecord, NotQueued}
 use Rattle.queue.specs.Queued.{QueuedLeft}
 use Rattle.muxer_rxq.specs.Queue.{pack}
 use Rattle.muxer_rxq.specs.Push.{pushOf}
 use Rattle.muxer_rxq.specs.Pop.{PopLeft, popOf}
+use Rattle.muxer_rxq.specs.Build.{buildOf}
 use Rattle.muxer_rxq.specs.declared.rxq.MuxerRx.{MuxerRx}
 use Rattle.muxer_rxq.specs.declared.rxq.MuxerRxQ.{MuxerRxQ}
 
@@ -39,4 +40,26 @@ readingJ =
     ∷ (pushOf (record { queue = afterS .queue; rx = rst 10 }) reads record { answer = told NotQueued; queue = two (rst 9) (rst 8) false })
     ∷ (popped reads record { answer = told Done; found = true; given = rst 9; queue = pack (rst 8 ∷ []) 2 false })
     ∷ (pushOf (record { queue = popped .queue; rx = rst 10 }) reads record { answer = told NotQueued; queue = pack (rst 8 ∷ []) 2 false })
+    ∷ []
+
+-- the ports of a slot, and its connection, told by the local port; the peer port is 7
+abbrev slot : ℕ → ℕ
+slot n = n * 2 ^ 32 + 7
+
+abbrev connOf : ℕ → MuxerRx
+connOf n = record { rst = false; «local_port» = n; «peer_port» = 7 }
+
+-- a build from four slots, the last not used, by its limit and by which of them are pending
+abbrev built : ℕ → List ℕ → QueuedLeft MuxerRxQ
+built limit pending =
+    buildOf (record { limit = limit; ports = slot 1 ∷ slot 2 ∷ slot 3 ∷ slot 4 ∷ []; used = 1 ∷ 1 ∷ 1 ∷ 0 ∷ []; pending = pending })
+
+-- Q = 2: two slots pending, and three: the first two, and unsynced; none pending; limits 0 and 257
+unfoldable pub builds : List Reading
+builds =
+    (built 2 (1 ∷ 0 ∷ 1 ∷ 1 ∷ []) reads record { answer = told Done; queue = pack (connOf 1 ∷ connOf 3 ∷ []) 2 true })
+    ∷ (built 2 (1 ∷ 1 ∷ 1 ∷ 1 ∷ []) reads record { answer = told Done; queue = pack (connOf 1 ∷ connOf 2 ∷ []) 2 false })
+    ∷ (built 2 (0 ∷ 0 ∷ 0 ∷ 1 ∷ []) reads record { answer = told Done; queue = pack [] 2 true })
+    ∷ (built 0 (1 ∷ 0 ∷ 1 ∷ 1 ∷ []) reads record { answer = told BadRecord; queue = pack [] 0 true })
+    ∷ (built 257 (1 ∷ 0 ∷ 1 ∷ 1 ∷ []) reads record { answer = told BadRecord; queue = pack [] 0 true })
     ∷ []

@@ -2,5 +2,6 @@ pub mod Queue
 pub mod Push
 pub mod Pop
 pub mod Build
+pub mod Outcomes
 pub mod Edges
 pub mod Promises

@@ -12,7 +12,7 @@ use Rattle.muxer_rxq.specs.Queue.{rxq, soundQ, items, NewSays}
 use Rattle.muxer_rxq.specs.Push.{PushIn, PushSays, turnsDown}
 use Rattle.muxer_rxq.specs.Pop.{PopLeft, PopSays}
 use Rattle.muxer_rxq.specs.Build.{BuildIn, BuildSays}
-use Rattle.muxer_rxq.specs.Edges.{readingJ}
+use Rattle.muxer_rxq.specs.Edges.{readingJ, builds}
 use Rattle.muxer_rxq.specs.declared.rxq.MuxerRxQ.{MuxerRxQ}
 
 -- the queue means its list: a list within the limit makes a sound queue that holds it, and a sound queue is the one that its items make
@@ -33,6 +33,7 @@ PushAnswers =
     → AnswersInTurn (left .answer)
     (pushRows (soundQ (i .queue)) (turnsDown (items (i .queue)) (i .queue .limit) (i .queue .synced) (i .rx)))
 
--- 01's readings at the edges of this crate
+-- 01's readings at the edges of this crate, and builds at the limit
 pub record EdgesHold : Type 0 where
   pub j : Hold readingJ
+  pub builds : Hold builds
