@@ -4,6 +4,7 @@ pub mod ReceiveLaws
 pub mod SendLaws
 pub mod AnswerLaws
 pub mod OutcomeLaws
+pub mod LeavesLaws
 pub mod OfferLaws
 pub mod MovesLaws
 pub mod RunLaws

@@ -17,7 +17,7 @@ use Rattle.defs.specs.Promises.{Refuses, Exactly}
 use Rattle.defs.specs.Stream.{counted, failed}
 use Rattle.defs.specs.declared.answer.Answer.{Answer}
 use Rattle.defs.specs.declared.answer.Answer.the-variants.{Done}
-use Rattle.defs.proofs.Basics.{never, both, true-or-false}
+use Rattle.defs.proofs.Basics.{never, both, true-or-false, or-true, or-false}
 use Rattle.defs.proofs.AnswerLaws.{done-is-done, is-done, when-done, when-not-done, number-zero, answer-told, left-done, left-kept}
 use Rattle.defs.proofs.ChoiceLaws.{when-true, when-false, when-holds}
 use Rattle.packet.specs.Header.{layout, fields, ofFields, encoded, decoded}
@@ -112,7 +112,7 @@ rule-peer c empty pkt p kills ring clock =
     (same-peer (eqb (pkt .op) opCreditRequest) _ _ _ refl refl)))
 
 -- what a packet that is done leaves
-done-left : (i : SendIn) (o : SendLeft) → o ≡ sendOf i → o .answer .number ≡ 0 → o ≡ sendDone i
+pub done-left : (i : SendIn) (o : SendLeft) → o ≡ sendOf i → o .answer .number ≡ 0 → o ≡ sendDone i
 unfolding sendOf sendKept
 done-left i o says n = left-done (λ (x : SendLeft). x .answer) (sendAnswer i) (sendDone i) (sendKept i) o refl says n
 
@@ -132,23 +132,23 @@ unfolding goesOf
 goes-now i = ap (λ (t : Bool). t && i .present && eqb (pktOf i .op) opRw) (every-state-means (i .conn .state) .takes)
 
 module _ (i : SendIn) (g : meetsData i ≡ true) where
-  goes : goesOf (i .conn) (pktOf i .op) (i .present) ≡ true
+  pub goes : goesOf (i .conn) (pktOf i .op) (i .present) ≡ true
   goes = goes-now i ∙ g
 
-  plan-len : sendPlan i .len ≡ decoded (i .hdr) .len
+  pub plan-len : sendPlan i .len ≡ decoded (i .hdr) .len
   unfolding planOf
   plan-len = when-true _ _ _ goes
 
-  plan-written : sendPlan i .written ≡ takenNow i
+  pub plan-written : sendPlan i .written ≡ takenNow i
   unfolding planOf quiet
   plan-written = ap (λ (t : Bool). when (t && writesNow i) (counted (i .answers .first)) 0) goes
 
-  kills-now : sendKills i ≡ killsNow i
+  pub kills-now : sendKills i ≡ killsNow i
   unfolding killsOf planOf quiet when
   kills-now = rw goes
 
 module _ (i : SendIn) (g : meetsData i ≡ false) where
-  stays-out : goesOf (i .conn) (pktOf i .op) (i .present) ≡ false
+  pub stays-out : goesOf (i .conn) (pktOf i .op) (i .present) ≡ false
   stays-out = goes-now i ∙ g
 
   nothing-brought : when (sendKills i) (take (sendPlan i .written) (take (sendPlan i .len) (i .buf))) (take (sendPlan i .len) (i .buf)) ≡ []
@@ -162,7 +162,7 @@ met i =
     (λ (g : meetsData i ≡ false). nothing-brought i g ∙ sym (when-false _ _ _ g))
     (true-or-false (meetsData i))
 
-send-number : (i : SendIn) (o : SendLeft) → o ≡ sendOf i → o .answer ≡ told (sendAnswer i)
+pub send-number : (i : SendIn) (o : SendLeft) → o ≡ sendOf i → o .answer ≡ told (sendAnswer i)
 unfolding sendOf sendDone sendKept
 send-number i o says = ap (λ (x : SendLeft). x .answer) says ∙ answer-told (λ (x : SendLeft). x .answer) (sendAnswer i) (sendDone i) (sendKept i) refl refl
 
@@ -175,15 +175,7 @@ every-send-accepts i o says = record {
 
 -- ---- updates
 
-or-true : (b : Bool) → b || true ≡ true
-or-true true = refl
-or-true false = refl
-
-or-false : (b : Bool) → b || false ≡ b
-or-false true = refl
-or-false false = refl
-
-rule-data : (c : VsockConnection) (empty : Bool) (pkt : VsockPacketHdr) (p : SendPlan) (ring : TxBuf) (clock : ℕ) → pkt .op ≡ opRw → p .goes ≡ true
+pub rule-data : (c : VsockConnection) (empty : Bool) (pkt : VsockPacketHdr) (p : SendPlan) (ring : TxBuf) (clock : ℕ) → pkt .op ≡ opRw → p .goes ≡ true
     → ruleOf c empty pkt p false ring clock ≡ updatedOf (movedOf c ring (p .written))
 unfolding ruleOf onData when
 rule-data c empty pkt p ring clock e g = rw (e, g)

@@ -12,4 +12,5 @@ pub mod Runs
 pub mod Stories
 pub mod Edges
 pub mod Outcomes
+pub mod Leaves
 pub mod Promises

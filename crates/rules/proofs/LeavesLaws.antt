@@ -1,0 +1,474 @@
+-- What a packet and an event leave, whole: the promises of specs/Leaves. Assumes nothing.
+use Prim.Native.Nat.{ℕ, zero, suc, _+_, _-_, _/_, _%_, _<_, _≤_}
+use mathlib.Core.Path.{_≡_, refl, sym, ap, _∙_}
+use mathlib.Core.Logic.{⊎-elim}
+use mathlib.Core.Bool.{Bool, true, false, not, _&&_, _||_}
+use mathlib.Core.List.{List, _++_}
+use native.Mathlib.Omega.{arith}
+use native.Mathlib.Nat.{div-one}
+use lib.Dec.{ltb, leb, eqb}
+use lib.ListN.{length, take, drop, length-drop}
+use lib.Seq.{length-take-le}
+use borrow.Author.Tests.{ltb-false, eqb-true, ne-eqb, le-leb, not-true, not-false}
+use Rattle.defs.specs.Answer.{Told}
+use Rattle.defs.specs.Stream.{failed}
+use Rattle.defs.specs.Choice.{when}
+use Rattle.defs.specs.Credit.{peerNeedsCreditUpdate}
+use Rattle.defs.specs.Wrapping.{wadd, wsub}
+use Rattle.defs.specs.declared.answer.Answer.the-variants.{Done}
+use Rattle.defs.proofs.Basics.{both, neither, true-or-false, and-false, or-true, or-false}
+use Rattle.defs.proofs.AnswerLaws.{number-zero}
+use Rattle.defs.proofs.ChoiceLaws.{when-true, when-false, when-same}
+use Rattle.packet.specs.Header.{decoded}
+use Rattle.packet.specs.Uapi.{opResponse, opShutdown, opRw, opCreditRequest}
+use Rattle.packet.specs.declared.hdr.VsockPacketHdr.{VsockPacketHdr}
+use Rattle.txbuf.specs.Record.{usedOf}
+use Rattle.txbuf.specs.Push.{runs, written, PushLeft, pushDone}
+use Rattle.txbuf.proofs.RingLaws.{two-runs}
+use Rattle.txbuf.specs.declared.record.TxBuf.{TxBuf}
+use Rattle.csm.specs.State.{isLocalInit, isEstablished, recvOff, sendOff, shutBy, bothOff, asks}
+use Rattle.csm.specs.Pending.{marked}
+use Rattle.csm.specs.Timer.{later}
+use Rattle.csm.specs.Means.{takesData, shutBoth, answersRequest}
+use Rattle.csm.proofs.Promises.{every-state-means}
+use Rattle.csm.specs.declared.pending.PendingRxSet.{PendingRxSet}
+use Rattle.csm.specs.declared.state.ConnState.{ConnState}
+use Rattle.csm.specs.declared.state.ConnState.the-variants.{LocalInit, PeerInit, Established, LocalClosed, PeerClosed, Killed}
+use Rattle.csm.specs.declared.timer.Timer.{Timer}
+use Rattle.csm.specs.declared.timer.Timer.the-variants.{Unset}
+use Rattle.rules.specs.Record.{sentOf, regrouped, quiet, withState, killedOf}
+use Rattle.rules.specs.Send.{heardOf, movedOf, updatedOf, onResponse, onShutdown, onCreditRequest, onData, ruleOf, planOf, SendIn, SendLeft, pktOf, sendPlan, sendAnswer, sendKills, sendCarried, sendDone, sendOf, carried, killsOf}
+use Rattle.rules.specs.Outcomes.{meetsData, writesNow, takenNow, killsNow, fallsShort}
+use Rattle.rules.specs.Leaves.{pushedOn, shutsReceive, shutsSend, closedBy, closedNow, confirmed, dataKills, dataStays, stateNow, cleared, isOpen, lingersNow, timerNow, SendLeaves, EverySendLeaves}
+use Rattle.rules.specs.declared.record.VsockConnection.{VsockConnection}
+use Rattle.rules.specs.declared.plan.SendPlan.{SendPlan}
+use Rattle.rules.proofs.SendLaws.{passed}
+use Rattle.rules.proofs.OutcomeLaws.{send-number, done-left, goes, plan-len, plan-written, kills-now, stays-out, rule-data}
+
+-- ---- tables
+
+confirmed-is : (s : ConnState) → confirmed s ≡ when (isLocalInit s) Established s
+unfolding when
+confirmed-is LocalInit = refl
+confirmed-is PeerInit = refl
+confirmed-is Established = refl
+confirmed-is LocalClosed = refl
+confirmed-is (PeerClosed a b) = refl
+confirmed-is Killed = refl
+
+cleared-is : (s : ConnState) (t : Timer) → cleared s t ≡ when (isLocalInit s) Unset t
+unfolding when
+cleared-is LocalInit t = refl
+cleared-is PeerInit t = refl
+cleared-is Established t = refl
+cleared-is LocalClosed t = refl
+cleared-is (PeerClosed a b) t = refl
+cleared-is Killed t = refl
+
+closed-is : (s : ConnState) (r f : Bool) → closedBy s r f ≡ shutBy s r f
+closed-is LocalInit r f = refl
+closed-is PeerInit r f = refl
+closed-is Established r f = refl
+closed-is LocalClosed r f = refl
+closed-is (PeerClosed a b) r f = refl
+closed-is Killed r f = refl
+
+-- a SHUTDOWN in Established leaves both flags set exactly where it has both
+lingers-is : (s : ConnState) (r f held : Bool) → isOpen s && ((r && f) && held) ≡ isEstablished s && bothOff (shutBy s r f) && held
+lingers-is LocalInit r f held = refl
+lingers-is PeerInit r f held = refl
+lingers-is Established r f held = refl
+lingers-is LocalClosed r f held = refl
+lingers-is (PeerClosed a b) r f held = refl
+lingers-is Killed r f held = refl
+
+held-some : (n : ℕ) → leb 1 n ≡ not (eqb n 0)
+held-some zero = refl
+held-some (suc n) = le-leb 1 (suc n) (omega arith) ∙ sym (ap not (ne-eqb (suc n) 0 (λ e. omega arith)))
+
+marked-none : (p : PendingRxSet) → marked p false false false ≡ p
+marked-none p = rw (or-false (p .rst), or-false (p .rw), or-false (p .«credit_update»))
+
+first-part : (a b c d u : Bool) → a ≡ true → c ≡ false → b ≡ u → u ≡ (a && b) || (c && d)
+first-part a b c d u p q r = rw (p, q, r) (sym (or-false u))
+
+-- ---- the rule that an op selects
+
+module _ (c : VsockConnection) (empty : Bool) (pkt : VsockPacketHdr) (p : SendPlan) (kills : Bool) (ring : TxBuf) (clock : ℕ) where
+  rule-response : pkt .op ≡ opResponse → ruleOf c empty pkt p kills ring clock ≡ onResponse c
+  unfolding ruleOf when
+  rule-response e = rw e
+
+  rule-shutdown : pkt .op ≡ opShutdown → ruleOf c empty pkt p kills ring clock ≡ onShutdown c empty (pkt .flags) clock
+  unfolding ruleOf when
+  rule-shutdown e = rw e
+
+  rule-request : pkt .op ≡ opCreditRequest → ruleOf c empty pkt p kills ring clock ≡ onCreditRequest c
+  unfolding ruleOf when
+  rule-request e = rw e
+
+  rule-unmet : pkt .op ≡ opRw → p .goes ≡ false → ruleOf c empty pkt p kills ring clock ≡ c
+  unfolding ruleOf onData when
+  rule-unmet e g = rw (e, g)
+
+  rule-kills : pkt .op ≡ opRw → p .goes ≡ true → kills ≡ true → ruleOf c empty pkt p kills ring clock ≡ killedOf (movedOf c ring (p .written))
+  unfolding ruleOf onData when
+  rule-kills e g k = rw (e, g, k)
+
+  rule-other : eqb (pkt .op) opResponse ≡ false → eqb (pkt .op) opShutdown ≡ false → eqb (pkt .op) opRw ≡ false → eqb (pkt .op) opCreditRequest ≡ false
+      → ruleOf c empty pkt p kills ring clock ≡ c
+  unfolding ruleOf when
+  rule-other a b d e = rw (a, b, d, e)
+
+-- ---- a packet
+
+-- the record after a packet by what it may move
+abbrev shaped : SendIn → ConnState → Timer → Bool → Bool → TxBuf → ℕ → VsockConnection
+shaped i s t rst update ring n =
+    regrouped (i .conn) (record { alloc = decoded (i .hdr) .«buf_alloc»; fwd = decoded (i .hdr) .«fwd_cnt» }) (record { ring = ring; count = n })
+    (sentOf (i .conn)) (record { state = s; expiry = t; pending = marked (i .conn .«pending_rx») rst false update })
+
+record Shape (i : SendIn) (d : VsockConnection) : Type 0 where
+  s : ConnState
+  t : Timer
+  rst : Bool
+  update : Bool
+  ring : TxBuf
+  n : ℕ
+  is : d ≡ shaped i s t rst update ring n
+  state-is : s ≡ stateNow i
+  timer-is : t ≡ timerNow i
+  rst-is : rst ≡ dataKills i || (eqb (decoded (i .hdr) .op) opShutdown && (shutBoth (closedNow i) && eqb (usedOf (i .conn .«tx_buf»)) 0))
+  update-is : update ≡ (dataStays i && fallsShort d) || (eqb (decoded (i .hdr) .op) opCreditRequest && answersRequest (i .conn .state))
+  ring-is : ring ≡ when (dataStays i) (pushedOn (i .conn .«tx_buf») (decoded (i .hdr) .len - takenNow i)) (i .conn .«tx_buf»)
+  count-is : n ≡ when (meetsData i) (wadd (i .conn .«fwd_cnt») (takenNow i)) (i .conn .«fwd_cnt»)
+
+module _ (i : SendIn) where
+  abbrev by : VsockConnection
+  by = sendDone i .conn
+
+  abbrev heard : VsockConnection
+  heard = heardOf (i .conn) (decoded (i .hdr))
+
+  not-met : eqb (decoded (i .hdr) .op) opRw ≡ false → meetsData i ≡ false
+  not-met e = ap (λ (b : Bool). takesData (i .conn .state) && i .present && b) e ∙ and-false (takesData (i .conn .state) && i .present)
+
+  -- where nothing is marked
+  unmarked : (s : ConnState) (t : Timer) → withState heard s t (i .conn .«pending_rx») ≡ shaped i s t false false (i .conn .«tx_buf») (i .conn .«fwd_cnt»)
+  unfolding heardOf withState
+  unmarked s t = let p = i .conn .«pending_rx» in rw (or-false (p .rst), or-false (p .rw), or-false (p .«credit_update»))
+
+  response-is : (b : Bool)
+      → when b (withState heard Established Unset (i .conn .«pending_rx»)) heard
+      ≡ shaped i (when b Established (i .conn .state)) (when b Unset (i .conn .expiry)) false false (i .conn .«tx_buf») (i .conn .«fwd_cnt»)
+  unfolding heardOf withState when
+  response-is true = unmarked Established Unset
+  response-is false = unmarked (i .conn .state) (i .conn .expiry)
+
+  response-now : onResponse heard
+      ≡ shaped i (when (isLocalInit (i .conn .state)) Established (i .conn .state)) (when (isLocalInit (i .conn .state)) Unset (i .conn .expiry)) false false (i .conn .«tx_buf») (i .conn .«fwd_cnt»)
+  unfolding onResponse heardOf
+  response-now = response-is (isLocalInit (i .conn .state))
+
+  -- the flags of a SHUTDOWN, read as the code does
+  abbrev shut : ConnState
+  shut = shutBy (i .conn .state) (recvOff (decoded (i .hdr) .flags)) (sendOff (decoded (i .hdr) .flags))
+
+  shut-now : shut ≡ closedNow i
+  shut-now = rw (div-one (decoded (i .hdr) .flags)) (sym (closed-is (i .conn .state) (shutsReceive i) (shutsSend i)))
+
+  lingers-now : isEstablished (i .conn .state) && bothOff shut && not (eqb (usedOf (i .conn .«tx_buf»)) 0) ≡ lingersNow i
+  lingers-now =
+      rw (div-one (decoded (i .hdr) .flags), held-some (usedOf (i .conn .«tx_buf»)))
+      (sym (lingers-is (i .conn .state) (shutsReceive i) (shutsSend i) (not (eqb (usedOf (i .conn .«tx_buf»)) 0))))
+
+  shutdown-now : onShutdown heard (quiet (i .conn .«tx_buf»)) (decoded (i .hdr) .flags) (i .clock)
+      ≡ shaped i shut (when (isEstablished (i .conn .state) && bothOff shut && not (eqb (usedOf (i .conn .«tx_buf»)) 0)) (later (i .clock) (i .conn .settings .«shutdown_timeout»)) (i .conn .expiry))
+      (bothOff shut && eqb (usedOf (i .conn .«tx_buf»)) 0) false (i .conn .«tx_buf») (i .conn .«fwd_cnt»)
+  unfolding onShutdown heardOf withState quiet
+  shutdown-now = refl
+
+  request-now : onCreditRequest heard ≡ shaped i (i .conn .state) (i .conn .expiry) false (asks (i .conn .state)) (i .conn .«tx_buf») (i .conn .«fwd_cnt»)
+  unfolding onCreditRequest heardOf withState
+  request-now = refl
+
+  still : heard ≡ shaped i (i .conn .state) (i .conn .expiry) false false (i .conn .«tx_buf») (i .conn .«fwd_cnt»)
+  unfolding heardOf withState
+  still = unmarked (i .conn .state) (i .conn .expiry)
+
+  -- a packet that brings no data
+  module _ (m : meetsData i ≡ false) where
+    by-response : decoded (i .hdr) .op ≡ opResponse → Shape i by
+    unfolding sendDone when
+    by-response e = record {
+      s = when (isLocalInit (i .conn .state)) Established (i .conn .state);
+      t = when (isLocalInit (i .conn .state)) Unset (i .conn .expiry);
+      rst = false;
+      update = false;
+      ring = i .conn .«tx_buf»;
+      n = i .conn .«fwd_cnt»;
+      is = rule-response heard _ (decoded (i .hdr)) _ _ _ _ e ∙ response-now;
+      state-is = rw (m, e) (sym (confirmed-is (i .conn .state)));
+      timer-is = rw e (sym (cleared-is (i .conn .state) (i .conn .expiry)));
+      rst-is = rw (m, e);
+      update-is = rw (m, e);
+      ring-is = rw m;
+      count-is = rw m;
+    }
+
+    by-shutdown : decoded (i .hdr) .op ≡ opShutdown → Shape i by
+    unfolding sendDone when
+    by-shutdown e = record {
+      s = shut;
+      t = when (isEstablished (i .conn .state) && bothOff shut && not (eqb (usedOf (i .conn .«tx_buf»)) 0)) (later (i .clock) (i .conn .settings .«shutdown_timeout»)) (i .conn .expiry);
+      rst = bothOff shut && eqb (usedOf (i .conn .«tx_buf»)) 0;
+      update = false;
+      ring = i .conn .«tx_buf»;
+      n = i .conn .«fwd_cnt»;
+      is = rule-shutdown heard _ (decoded (i .hdr)) _ _ _ _ e ∙ shutdown-now;
+      state-is = rw (m, e) shut-now;
+      timer-is = rw (e, lingers-now);
+      rst-is = rw (m, e) (rw shut-now (ap (λ (b : Bool). b && eqb (usedOf (i .conn .«tx_buf»)) 0) (every-state-means (closedNow i) .both)));
+      update-is = rw (m, e);
+      ring-is = rw m;
+      count-is = rw m;
+    }
+
+    by-request : decoded (i .hdr) .op ≡ opCreditRequest → Shape i by
+    unfolding sendDone when
+    by-request e = record {
+      s = i .conn .state;
+      t = i .conn .expiry;
+      rst = false;
+      update = asks (i .conn .state);
+      ring = i .conn .«tx_buf»;
+      n = i .conn .«fwd_cnt»;
+      is = rule-request heard _ (decoded (i .hdr)) _ _ _ _ e ∙ request-now;
+      state-is = rw (m, e);
+      timer-is = rw e;
+      rst-is = rw (m, e);
+      update-is = rw (m, e) (every-state-means (i .conn .state) .asks);
+      ring-is = rw m;
+      count-is = rw m;
+    }
+
+    -- any other op, or data that is not taken
+    by-other : eqb (decoded (i .hdr) .op) opResponse ≡ false → eqb (decoded (i .hdr) .op) opShutdown ≡ false → eqb (decoded (i .hdr) .op) opCreditRequest ≡ false → by ≡ heard → Shape i by
+    unfolding when
+    by-other a b c e = record {
+      s = i .conn .state;
+      t = i .conn .expiry;
+      rst = false;
+      update = false;
+      ring = i .conn .«tx_buf»;
+      n = i .conn .«fwd_cnt»;
+      is = e ∙ still;
+      state-is = rw (m, a, b);
+      timer-is = rw (a, b);
+      rst-is = rw (m, b);
+      update-is = rw (m, c);
+      ring-is = rw m;
+      count-is = rw m;
+    }
+
+  -- a packet whose data is taken
+  module _ (m : meetsData i ≡ true) where
+    data-op : decoded (i .hdr) .op ≡ opRw
+    data-op = eqb-true _ _ (both (takesData (i .conn .state) && i .present) _ m .1)
+
+    killed-form : (ring : TxBuf) (n : ℕ) → killedOf (movedOf heard ring n) ≡ shaped i Killed (i .conn .expiry) true false ring (wadd (i .conn .«fwd_cnt») n)
+    unfolding killedOf movedOf heardOf withState
+    killed-form ring n = refl
+
+    updated-form : (ring : TxBuf) (n : ℕ)
+        → updatedOf (movedOf heard ring n)
+        ≡ shaped i (i .conn .state) (i .conn .expiry) false
+        (ltb (wsub (ring .size) (wsub (wadd (i .conn .«fwd_cnt») n) (i .conn .«last_fwd_cnt_to_peer»))) (i .conn .settings .threshold)) ring (wadd (i .conn .«fwd_cnt») n)
+    unfolding updatedOf movedOf heardOf withState peerNeedsCreditUpdate
+    updated-form ring n = refl
+
+    by-kill : killsNow i ≡ true → Shape i by
+    unfolding sendDone planOf carried when
+    by-kill k =
+        let g = goes i m in
+        let x : sendKills i ≡ true = kills-now i m ∙ k in
+        let w : sendPlan i .written ≡ takenNow i = plan-written i m in
+        record {
+          s = Killed;
+          t = i .conn .expiry;
+          rst = true;
+          update = false;
+          ring = sendCarried i .ring;
+          n = wadd (i .conn .«fwd_cnt») (takenNow i);
+          is = rule-kills heard _ (decoded (i .hdr)) (sendPlan i) _ (sendCarried i .ring) _ data-op g x ∙ ap (λ (n : ℕ). killedOf (movedOf heard (sendCarried i .ring) n)) w ∙ killed-form (sendCarried i .ring) (takenNow i);
+          state-is = rw (m, k);
+          timer-is = rw data-op;
+          rst-is = rw (m, k);
+          update-is = rw (m, k, data-op);
+          ring-is = rw (m, k, x, g);
+          count-is = rw m;
+        }
+
+    -- what the stream did not take is pushed
+    abbrev rest : List ℕ
+    rest = drop (takenNow i) (take (decoded (i .hdr) .len) (i .buf))
+
+    pushes : killsNow i ≡ false → sendCarried i ≡ pushDone (record { ring = i .conn .«tx_buf»; store = i .store; src = rest })
+    unfolding carried planOf
+    pushes k =
+        let g = goes i m in
+        let x : sendKills i ≡ false = kills-now i m ∙ k in
+        let l : sendPlan i .len ≡ decoded (i .hdr) .len = plan-len i m in
+        let w : sendPlan i .written ≡ takenNow i = plan-written i m in
+        let keeps : sendPlan i .goes && not (sendKills i) ≡ true = ap (λ (b : Bool). b && not (sendKills i)) g ∙ ap not x in
+        when-true _ _ _ keeps
+        ∙ ap (λ (r : List ℕ). pushDone (record { ring = i .conn .«tx_buf»; store = i .store; src = r }))
+        (ap (λ (n : ℕ). drop (sendPlan i .written) (take n (i .buf))) l ∙ ap (λ (n : ℕ). drop n (take (decoded (i .hdr) .len) (i .buf))) w)
+
+    rest-length : sendAnswer i ≡ Done → length rest ≡ decoded (i .hdr) .len - takenNow i
+    rest-length d =
+        let l : sendPlan i .len ≡ decoded (i .hdr) .len = plan-len i m in
+        let p = passed i d .part in
+        length-drop (takenNow i) _ ∙ ap (λ (n : ℕ). n - takenNow i) (length-take-le (decoded (i .hdr) .len) (i .buf) (omega arith))
+
+    pushed-ring : sendAnswer i ≡ Done → killsNow i ≡ false → sendCarried i .ring ≡ pushedOn (i .conn .«tx_buf») (decoded (i .hdr) .len - takenNow i)
+    unfolding pushDone
+    pushed-ring d k = ap (λ (o : PushLeft). o .ring) (pushes k) ∙ ap (pushedOn (i .conn .«tx_buf»)) (rest-length d)
+
+    by-data : sendAnswer i ≡ Done → killsNow i ≡ false → Shape i by
+    unfolding sendDone planOf when
+    by-data d k =
+        let g = goes i m in
+        let x : sendKills i ≡ false = kills-now i m ∙ k in
+        let w : sendPlan i .written ≡ takenNow i = plan-written i m in
+        let ring : TxBuf = sendCarried i .ring in
+        let short = ltb (wsub (ring .size) (wsub (wadd (i .conn .«fwd_cnt») (takenNow i)) (i .conn .«last_fwd_cnt_to_peer»))) (i .conn .settings .threshold) in
+        let z : by ≡ shaped i (i .conn .state) (i .conn .expiry) false short ring (wadd (i .conn .«fwd_cnt») (takenNow i)) =
+        ap (λ (b : Bool). ruleOf heard (quiet (i .conn .«tx_buf»)) (decoded (i .hdr)) (sendPlan i) b ring (i .clock)) x
+        ∙ rule-data heard _ (decoded (i .hdr)) (sendPlan i) ring _ data-op g
+        ∙ ap (λ (n : ℕ). updatedOf (movedOf heard ring n)) w ∙ updated-form ring (takenNow i) in
+        record {
+          s = i .conn .state;
+          t = i .conn .expiry;
+          rst = false;
+          update = short;
+          ring = ring;
+          n = wadd (i .conn .«fwd_cnt») (takenNow i);
+          is = z;
+          state-is = rw (m, k, data-op);
+          timer-is = rw data-op;
+          rst-is = rw (m, k, data-op);
+          update-is = first-part (dataStays i) _ _ _ short (rw (m, k)) (ap (λ (o : ℕ). eqb o opCreditRequest) data-op) (ap fallsShort z);
+          ring-is = rw (m, k) (pushed-ring d k);
+          count-is = rw m;
+        }
+
+    -- what is pushed is written byte by byte
+    pushed-store : sendAnswer i ≡ Done → killsNow i ≡ false → sendCarried i .store ≡ written (i .store) (i .conn .«tx_buf» .size) (i .conn .«tx_buf» .head) rest
+    unfolding pushDone
+    pushed-store d k =
+        let b : TxBuf = i .conn .«tx_buf» in
+        let s = passed i d .sound in
+        let w : length (i .store) ≡ b .size = s .whole in
+        let l : length rest ≡ decoded (i .hdr) .len - takenNow i = rest-length d in
+        let f : usedOf b + (decoded (i .hdr) .len - takenNow i) ≤ b .size = ltb-false (b .size) _ (neither (writesNow i && failed (i .answers .first)) _ k .1) in
+        ap (λ (o : PushLeft). o .store) (pushes k)
+        ∙ ap (λ (n : ℕ). runs (i .store) (b .head % n) rest) (sym w)
+        ∙ two-runs (i .store) rest (b .head) (omega (arith, s .least)) (omega arith)
+        ∙ ap (λ (n : ℕ). written (i .store) n (b .head) rest) w
+
+  -- where nothing is pushed
+  kept-store : dataStays i ≡ false → sendCarried i .store ≡ i .store
+  unfolding carried planOf
+  kept-store n = ap (λ (o : PushLeft). o .store) (when-false _ _ (sendPlan i .goes && not (sendKills i)) keeps)
+    where
+      keeps : sendPlan i .goes && not (sendKills i) ≡ false
+      keeps =
+          ⊎-elim
+          (λ (m : meetsData i ≡ true).
+          let k : killsNow i ≡ true = not-false _ (ap (λ (b : Bool). b && not (killsNow i)) (sym m) ∙ n) in
+          ap (λ (b : Bool). sendPlan i .goes && not b) (kills-now i m ∙ k) ∙ and-false (sendPlan i .goes))
+          (λ (m : meetsData i ≡ false). ap (λ (b : Bool). b && not (sendKills i)) (stays-out i m))
+          (true-or-false (meetsData i))
+
+  shape : sendAnswer i ≡ Done → Shape i by
+  unfolding sendDone planOf
+  shape d =
+      ⊎-elim
+      (λ (m : meetsData i ≡ true).
+      ⊎-elim (λ (k : killsNow i ≡ true). by-kill m k) (λ (k : killsNow i ≡ false). by-data m d k) (true-or-false (killsNow i)))
+      (λ (m : meetsData i ≡ false). plain m)
+      (true-or-false (meetsData i))
+    where
+      other : (m : meetsData i ≡ false) → eqb (decoded (i .hdr) .op) opResponse ≡ false → eqb (decoded (i .hdr) .op) opShutdown ≡ false → eqb (decoded (i .hdr) .op) opCreditRequest ≡ false → by ≡ heard
+      other m a b c =
+          ⊎-elim
+          (λ (e : eqb (decoded (i .hdr) .op) opRw ≡ true). rule-unmet heard _ (decoded (i .hdr)) (sendPlan i) _ _ _ (eqb-true _ _ e) (stays-out i m))
+          (λ (e : eqb (decoded (i .hdr) .op) opRw ≡ false). rule-other heard _ (decoded (i .hdr)) (sendPlan i) _ _ _ a b e c)
+          (true-or-false (eqb (decoded (i .hdr) .op) opRw))
+      plain : (m : meetsData i ≡ false) → Shape i by
+      plain m =
+          ⊎-elim (λ (a : eqb (decoded (i .hdr) .op) opResponse ≡ true). by-response m (eqb-true _ _ a))
+          (λ (a : eqb (decoded (i .hdr) .op) opResponse ≡ false).
+          ⊎-elim (λ (b : eqb (decoded (i .hdr) .op) opShutdown ≡ true). by-shutdown m (eqb-true _ _ b))
+          (λ (b : eqb (decoded (i .hdr) .op) opShutdown ≡ false).
+          ⊎-elim (λ (c : eqb (decoded (i .hdr) .op) opCreditRequest ≡ true). by-request m (eqb-true _ _ c))
+          (λ (c : eqb (decoded (i .hdr) .op) opCreditRequest ≡ false). by-other m a b c (other m a b c))
+          (true-or-false (eqb (decoded (i .hdr) .op) opCreditRequest)))
+          (true-or-false (eqb (decoded (i .hdr) .op) opShutdown)))
+          (true-or-false (eqb (decoded (i .hdr) .op) opResponse))
+
+  out-now : sendDone i .out ≡ when (meetsData i) (take (takenNow i) (take (decoded (i .hdr) .len) (i .buf)) ++ drop (takenNow i) (i .out)) (i .out)
+  unfolding sendDone planOf when
+  out-now =
+      ⊎-elim
+      (λ (m : meetsData i ≡ true). rw (m, plan-written i m, plan-len i m))
+      (λ (m : meetsData i ≡ false). rw (m, stays-out i m))
+      (true-or-false (meetsData i))
+
+  store-now : sendAnswer i ≡ Done
+      → sendDone i .store
+      ≡ when (dataStays i) (written (i .store) (i .conn .«tx_buf» .size) (i .conn .«tx_buf» .head) (drop (takenNow i) (take (decoded (i .hdr) .len) (i .buf)))) (i .store)
+  unfolding sendDone
+  store-now d =
+      ⊎-elim
+      (λ (t : dataStays i ≡ true). let s = both _ _ t in pushed-store (s .0) d (not-true _ (s .1)) ∙ sym (when-true _ _ _ t))
+      (λ (t : dataStays i ≡ false). kept-store t ∙ sym (when-false _ _ _ t))
+      (true-or-false (dataStays i))
+
+-- a packet that is done
+sent-done : (i : SendIn) (o : SendLeft) → o ≡ sendOf i → o .answer .number ≡ 0 → sendAnswer i ≡ Done
+sent-done i o says n = number-zero (sendAnswer i) (ap (λ (t : Told). t .number) (sym (send-number i o says)) ∙ n)
+
+leaves : (i : SendIn) (d : VsockConnection) (o : SendLeft) → Shape i d → o .conn ≡ d
+    → o .store ≡ when (dataStays i) (written (i .store) (i .conn .«tx_buf» .size) (i .conn .«tx_buf» .head) (drop (takenNow i) (take (decoded (i .hdr) .len) (i .buf)))) (i .store)
+    → o .out ≡ when (meetsData i) (take (takenNow i) (take (decoded (i .hdr) .len) (i .buf)) ++ drop (takenNow i) (i .out)) (i .out) → SendLeaves i o
+leaves i d o h e s x =
+    let z = e ∙ h .is in
+    record {
+      self = record {
+        settings = ap (λ (c : VsockConnection). c .settings) z;
+        cids = (ap (λ (c : VsockConnection). c .«local_cid») z, ap (λ (c : VsockConnection). c .«peer_cid») z);
+        ports = (ap (λ (c : VsockConnection). c .«local_port») z, ap (λ (c : VsockConnection). c .«peer_port») z);
+      };
+      state = ap (λ (c : VsockConnection). c .state) z ∙ h .state-is;
+      request = ap (λ (c : VsockConnection). c .«pending_rx» .request) z;
+      response = ap (λ (c : VsockConnection). c .«pending_rx» .response) z;
+      rw = ap (λ (c : VsockConnection). c .«pending_rx» .rw) z ∙ or-false (i .conn .«pending_rx» .rw);
+      rst = ap (λ (c : VsockConnection). c .«pending_rx» .rst) z ∙ ap (λ (b : Bool). i .conn .«pending_rx» .rst || b) (h .rst-is);
+      update =
+          ap (λ (c : VsockConnection). c .«pending_rx» .«credit_update») z
+          ∙ ap (λ (b : Bool). i .conn .«pending_rx» .«credit_update» || b)
+          (h .update-is ∙ ap (λ (c : VsockConnection). (dataStays i && fallsShort c) || (eqb (decoded (i .hdr) .op) opCreditRequest && answersRequest (i .conn .state))) (sym e));
+      ring = ap (λ (c : VsockConnection). c .«tx_buf») z ∙ h .ring-is;
+      store = s;
+      count = ap (λ (c : VsockConnection). c .«fwd_cnt») z ∙ h .count-is;
+      sent = ap (λ (c : VsockConnection). c .«rx_cnt») z;
+      out = x;
+    }
+
+pub every-send-leaves : EverySendLeaves
+every-send-leaves i o says n =
+    let d = sent-done i o says n in
+    let z = done-left i o says n in
+    leaves i _ o (shape i d) (ap (λ (x : SendLeft). x .conn) z) (ap (λ (x : SendLeft). x .store) z ∙ store-now i d) (ap (λ (x : SendLeft). x .out) z ∙ out-now i)
