@@ -138,10 +138,15 @@ left-done answer a x y o f e n =
     e ∙ when-done a x y (number-zero a (ap (λ (w : Told). w .number) (sym f ∙ ap answer (sym z)) ∙ n)))
     (true-or-false (isDone a))
 
--- and a refusal keeps, where what is done is none
-pub left-kept : {Out : Type 0} (answer : Out → Told) (a : Answer) (x y o : Out) → (Refuses (answer x) → ⊥) → o ≡ whenDone a x y → Refuses (answer o) → o ≡ y
-left-kept answer a x y o f e r =
+-- and keeps where it is answered in a way that what is done is not
+pub left-where : {Out : Type 0} (Way : Told → Type 0) (answer : Out → Told) (a : Answer) (x y o : Out) → (Way (answer x) → ⊥) → o ≡ whenDone a x y
+    → Way (answer o) → o ≡ y
+left-where Way answer a x y o f e r =
     ⊎-elim
-    (λ (t : isDone a ≡ true). absurd (f (subst (λ (z : _). Refuses (answer z)) (e ∙ when-done a x y (is-done a t)) r)))
+    (λ (t : isDone a ≡ true). absurd (f (subst (λ (z : _). Way (answer z)) (e ∙ when-done a x y (is-done a t)) r)))
     (λ (t : isDone a ≡ false). e ∙ when-not-done a x y t)
     (true-or-false (isDone a))
+
+-- as a refusal is
+pub left-kept : {Out : Type 0} (answer : Out → Told) (a : Answer) (x y o : Out) → (Refuses (answer x) → ⊥) → o ≡ whenDone a x y → Refuses (answer o) → o ≡ y
+left-kept = left-where Refuses

@@ -1,4 +1,4 @@
--- Each call on a ring answers by 01's rows. Assumes nothing.
+-- Each call on a ring answers by 01's rows, and changes nothing where it is not done. Assumes nothing.
 use Prim.Native.Nat.{ℕ, _+_, _-_, _<_, _≤_}
 use mathlib.Core.Path.{_≡_, refl, sym, ap, _∙_}
 use mathlib.Core.Logic.{⊎-elim}
@@ -10,29 +10,31 @@ use lib.Dec.{ltb, eqb}
 use lib.ListN.{length}
 use borrow.Author.Tests.{lt-ltb, le-ltb, ltb-false, eq-eqb, ne-eqb, not-false}
 use Rattle.defs.specs.Choice.{when}
-use Rattle.defs.specs.Answer.{Told, told}
+use Rattle.defs.specs.Answer.{Told, told, isDone, whenDone}
 use Rattle.defs.specs.Ladder.{doorOf, lateOf, lowestOf, recordAnswer}
-use Rattle.defs.specs.Limits.{isRingSize, isPacketLength}
+use Rattle.defs.specs.Limits.{maxPacket, isRingSize, isPacketLength}
 use Rattle.defs.specs.Look.{LenLeft, lenOf, FlagLeft, flagOf}
-use Rattle.defs.specs.Promises.{Exactly, AnswersInTurn}
-use Rattle.defs.specs.Stream.{counted, stoppedBy, stops}
+use Rattle.defs.specs.Promises.{Exactly, AnswersInTurn, Refuses}
+use Rattle.defs.specs.Stream.{counted, failed, stoppedBy, stops}
 use Rattle.defs.specs.declared.answer.Answer.{Answer}
 use Rattle.defs.specs.declared.answer.Answer.the-variants.{Done, TxBufFull}
 use Rattle.defs.specs.declared.stream.StreamAnswer.{StreamAnswer}
+use Rattle.defs.specs.declared.stream.StreamAnswer.the-variants.{Count, WouldBlock, Failed}
 use Rattle.defs.specs.declared.stream.StreamAnswers.{StreamAnswers}
-use Rattle.defs.proofs.Basics.{lt-or-ge, and-false}
+use Rattle.defs.proofs.Basics.{lt-or-ge, true-or-false, and-false}
 use Rattle.defs.proofs.ChoiceLaws.{when-same}
-use Rattle.defs.proofs.AnswerLaws.{answer-told}
-use Rattle.defs.proofs.LimitLaws.{ring-sizes, packet-over}
+use Rattle.defs.proofs.AnswerLaws.{is-done, when-not-done, answer-told, left-where}
+use Rattle.defs.proofs.LimitLaws.{ring-sizes, packet-length, packet-over}
 use Rattle.defs.proofs.MeansLaws.{as-is, not-means, and-means, or-means, below-means}
-use Rattle.defs.proofs.LadderLaws.{firstInTurn, by-turn, row, exchange, ladder-then, lowest-end, stop-number, record-number}
+use Rattle.defs.proofs.LadderLaws.{firstInTurn, by-turn, row, exchange, ladder-then, lowest-end, stop-number, record-number, lowest-passed, door-passed, late-passed}
 use Rattle.txbuf.specs.Record.{usedOf, soundRecord, soundOf, NewLeft, newOf, lookAnswer}
 use Rattle.txbuf.specs.Push.{PushIn, PushLeft, pushAnswer, pushAnswerOf, pushDone, pushKept, pushOf, NumberedLeft}
 use Rattle.txbuf.specs.Flush.{pieceLen, takenBy, overBy, FlushIn, FlushLeft, endsBy, flushAnswer, flushCount, flushOver, flushDone, flushKept, flushOf}
 use Rattle.txbuf.specs.Means.{Sound, firstLength, secondLength, usesFirst, usesSecond, countedNow, CountsTooMuch}
 use Rattle.txbuf.specs.Answers.{pushRows, PushAnswers, NumberedAnswers, FlushAnswers, NewAnswers, LookAnswers}
+use Rattle.txbuf.specs.Outcomes.{RefusalsChangeNothing, NineAndTenChangeNothing}
 use Rattle.txbuf.specs.declared.record.TxBuf.{TxBuf}
-use Rattle.txbuf.proofs.RecordLaws.{sound-means, sound-says, next-length}
+use Rattle.txbuf.proofs.RecordLaws.{sound-means, Sound as SoundNow, sound-says, next-length}
 
 -- ---- push
 
@@ -83,6 +85,28 @@ push-answers i left says = by-push-rows i (left .answer) (ap (λ (o : PushLeft).
 pub numbered-answers : NumberedAnswers
 numbered-answers i left says = by-push-rows i _ (ap (λ (o : NumberedLeft). o .number) says ∙ ap (λ (t : Told). t .number) (push-told i))
 
+-- what a push that is done says of its record
+pub record Ready (b : TxBuf) (storage bytes : ℕ) : Type 0 where
+  pub sound : SoundNow b storage
+  pub short : bytes ≤ maxPacket
+  pub room : usedOf b + bytes ≤ storage
+
+full-not : (t : Bool) → when t TxBufFull Done ≡ Done → t ≡ false
+unfolding when
+full-not true e = let z : _≡_ {A = ℕ} 9 0 = ap (λ (a : Answer). told a .number) e in absurd (omega arith)
+full-not false e = refl
+
+pub ready : (b : TxBuf) (storage bytes : ℕ) → pushAnswer b storage bytes ≡ Done → Ready b storage bytes
+unfolding pushAnswer
+ready b storage bytes e =
+    let u = lowest-passed _ _ e in
+    let d = door-passed _ _ _ _ (u .0) in
+    record {
+      sound = sound-says b storage (not-false _ (d .record-ok));
+      short = packet-length bytes .0 (not-false _ (d .length-ok));
+      room = ltb-false _ _ (full-not _ (u .1));
+    }
+
 -- ---- flush: the used answers in numbers
 
 none-is : (n : ℕ) → eqb n 0 ≡ not (ltb 0 n)
@@ -97,7 +121,7 @@ left-none : (n p : ℕ) → ltb 0 n ≡ false → ltb 0 (n - p) ≡ false
 left-none n p e = let l = ltb-false 0 n e in le-ltb 0 (n - p) (omega arith)
 
 -- an answer that is used counts too much, as a test
-abbrev tooMuch : TxBuf → StreamAnswers → Bool
+abbrev pub tooMuch : TxBuf → StreamAnswers → Bool
 tooMuch b a = usesFirst b && ltb (firstLength b) (counted (a .first)) || usesSecond b a && ltb (secondLength b) (counted (a .second))
 
 too-much-means : (b : TxBuf) (a : StreamAnswers) → Exactly (tooMuch b a ≡ true) (CountsTooMuch b a)
@@ -172,6 +196,17 @@ flush-answers i left says =
     ap (λ (over : Bool). firstInTurn ((5, over) ∷ (6, ltb (length (i .out)) (flushCount i)) ∷ (10, blocked) ∷ [])) (over-is i (not-false _ s))
     ∙ ap (λ (n : ℕ). firstInTurn ((5, tooMuch b (i .answers)) ∷ (6, ltb (length (i .out)) n) ∷ (10, blocked) ∷ [])) (count-is i)))
 
+-- what an answer that is Done says
+pub sound-done : (i : FlushIn) → flushAnswer i ≡ Done → SoundNow (i .ring) (length (i .store))
+unfolding flushAnswer recordAnswer
+sound-done i d =
+    let r = lowest-passed _ _ (lowest-passed _ _ d .0) .0 in
+    sound-says _ _ (not-false _ (door-passed _ _ _ _ r .record-ok))
+
+pub not-over : (i : FlushIn) → flushAnswer i ≡ Done → flushOver i ≡ false
+unfolding flushAnswer
+not-over i d = late-passed _ _ (lowest-passed _ _ (lowest-passed _ _ d .0) .1) .answer-ok
+
 -- ---- new, len and is_empty
 
 pub new-answers : NewAnswers
@@ -188,3 +223,62 @@ look-answers = record {
   where
     by-look : (b : TxBuf) (t : Told) → t .number ≡ told (lookAnswer b) .number → AnswersInTurn t ((1, Sound b → ⊥) ∷ [])
     by-look b t e = by-turn t (row 1 (not-means (sound-means .alone b)) ∷ []) (e ∙ record-number (soundRecord b))
+
+-- ---- what is not done changes nothing
+
+push-keeps : (i : PushIn) (o : PushLeft) → o ≡ pushOf i → (o .answer .number ≡ 0 → ⊥) → (o .ring ≡ i .ring) × (o .store ≡ i .store)
+unfolding pushOf pushDone pushKept
+push-keeps i o says n =
+    let e = left-where (λ (t : Told). t .number ≡ 0 → ⊥) (λ (x : PushLeft). x .answer) (pushAnswerOf i) (pushDone i) (pushKept i) o (λ z. z refl) says n in
+    (ap (λ (x : PushLeft). x .ring) e, ap (λ (x : PushLeft). x .store) e)
+
+flush-keeps : (i : FlushIn) (o : FlushLeft) → o ≡ flushOf i → (o .answer .number ≡ 0 → ⊥) → (o .ring ≡ i .ring) × (o .out ≡ i .out) × (o .count ≡ 0)
+unfolding flushOf flushDone flushKept
+flush-keeps i o says n =
+    let e = left-where (λ (t : Told). t .number ≡ 0 → ⊥) (λ (x : FlushLeft). x .answer) (flushAnswer i) (flushDone i) (flushKept i) o (λ z. z refl) says n in
+    (ap (λ (x : FlushLeft). x .ring) e, ap (λ (x : FlushLeft). x .out) e, ap (λ (x : FlushLeft). x .count) e)
+
+new-keeps : (size : ℕ) (o : NewLeft) → o ≡ newOf size → (o .answer .number ≡ 0 → ⊥) → o .ring ≡ record { size = 0; head = 0; tail = 0 }
+unfolding newOf
+new-keeps size o says n =
+    let a = recordAnswer (isRingSize size) in
+    ⊎-elim
+    (λ (t : isDone a ≡ true). absurd (n (ap (λ (x : NewLeft). x .answer .number) says ∙ ap (λ (x : Answer). told x .number) (is-done a t))))
+    (λ (t : isDone a ≡ false). ap (λ (x : NewLeft). x .ring) says ∙ when-not-done a _ _ t)
+    (true-or-false (isDone a))
+
+refused : (t : Told) → Refuses t → t .number ≡ 0 → ⊥
+refused t r e = omega (arith, r .0)
+
+pub refusals-change-nothing : RefusalsChangeNothing
+refusals-change-nothing = record {
+  push = λ i o says r. push-keeps i o says (refused (o .answer) r);
+  flush = λ i o says r. flush-keeps i o says (refused (o .answer) r);
+  new = λ size o says r. new-keeps size o says (refused (o .answer) r);
+}
+
+-- number 10 comes of the first write's answer alone
+ten-tells : (sound over small none : Bool) (a : StreamAnswer)
+    → told (lowestOf (lowestOf (recordAnswer sound) (lateOf over small)) (when none Done (stoppedBy a))) .number ≡ 10
+    → told (lowestOf (lowestOf (recordAnswer sound) (lateOf over small)) (when none Done (stoppedBy a))) .failed ≡ failed a
+unfolding lowestOf recordAnswer doorOf lateOf whenDone isDone when
+ten-tells false over small none a e = let z : _≡_ {A = ℕ} 1 10 = e in absurd (omega arith)
+ten-tells true true small none a e = let z : _≡_ {A = ℕ} 5 10 = e in absurd (omega arith)
+ten-tells true false true none a e = let z : _≡_ {A = ℕ} 6 10 = e in absurd (omega arith)
+ten-tells true false false true a e = let z : _≡_ {A = ℕ} 0 10 = e in absurd (omega arith)
+ten-tells true false false false (Count n) e = refl
+ten-tells true false false false WouldBlock e = refl
+ten-tells true false false false Failed e = refl
+
+flush-tells : (i : FlushIn) (o : FlushLeft) → o ≡ flushOf i → o .answer .number ≡ 10 → o .answer .failed ≡ failed (i .answers .first)
+unfolding flushAnswer endsBy
+flush-tells i o says n =
+    let e = ap (λ (x : FlushLeft). x .answer) says ∙ flush-told i in
+    ap (λ (t : Told). t .failed) e ∙ ten-tells _ _ _ _ (i .answers .first) (sym (ap (λ (t : Told). t .number) e) ∙ n)
+
+pub nine-and-ten-change-nothing : NineAndTenChangeNothing
+nine-and-ten-change-nothing = record {
+  push = λ i o says n. push-keeps i o says (λ z. omega arith);
+  numbered = λ i o says n. ap (λ (x : NumberedLeft). x .store) says ∙ push-keeps i (pushOf i) refl (λ z. n (ap (λ (x : NumberedLeft). x .number) says ∙ z)) .1;
+  flush = λ i o says n. let k = flush-keeps i o says (λ z. omega arith) in (k .0, k .1, k .2, flush-tells i o says n);
+}

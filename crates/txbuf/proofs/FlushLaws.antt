@@ -9,13 +9,13 @@ use native.Mathlib.Nat.{mod-lt, mod-eq-of-lt, mod-add-mod, add-zero}
 use lib.Dec.{ltb, eqb}
 use lib.ListN.{length, take, drop, length-take, length-drop, length-append, take-append-drop, drop-of-length-le}
 use lib.Seq.{take-all, take-take, take-add, drop-drop, drop-at, length-take-le}
-use borrow.Author.Tests.{lt-ltb, le-ltb, ltb-false, eq-eqb, ne-eqb, not-false}
+use borrow.Author.Tests.{lt-ltb, le-ltb, ltb-false, eq-eqb, ne-eqb}
 use Rattle.defs.specs.Choice.{when}
 use Rattle.defs.specs.Answer.{told, isDone}
 use Rattle.defs.specs.Limits.{maxRing}
 use Rattle.defs.specs.Stream.{counted, stoppedBy}
 use Rattle.defs.specs.Ladder.{doorOf, lateOf, lowestOf, recordAnswer}
-use Rattle.defs.specs.Wrapping.{wadd, wsub}
+use Rattle.defs.specs.Wrapping.{wadd}
 use Rattle.defs.specs.Copying.{copied}
 use Rattle.defs.specs.declared.answer.Answer.{Answer}
 use Rattle.defs.specs.declared.answer.Answer.the-variants.{Done, BadRecord, BadAnswer, NoRoom}
@@ -25,7 +25,7 @@ use Rattle.defs.proofs.StreamLaws.{NotCount, takes-none, not-count-stops, stopp
 use Rattle.defs.proofs.Basics.{never, lt-or-ge, true-or-false, neither, and-false}
 use Rattle.defs.proofs.ChoiceLaws.{when-true, when-false, when-same}
 use Rattle.defs.proofs.AnswerLaws.{NotDone, not-done, is-done, done-is-done, when-done, when-not-done, told-tells-apart}
-use Rattle.defs.proofs.LadderLaws.{lowest-passed, door-passed, late-passed, lowest-done, lowest-refused, lowest-end}
+use Rattle.defs.proofs.LadderLaws.{late-passed, lowest-done, lowest-refused, lowest-end}
 use Rattle.defs.proofs.CopyLaws.{copied-fits}
 use Rattle.defs.proofs.WrappingLaws.{keeps-place}
 use Rattle.txbuf.specs.Record.{Wide, usedOf, soundOf, heldFrom, held}
@@ -33,14 +33,11 @@ use Rattle.txbuf.specs.Flush.{pieceLen, firstPiece, takenBy, overBy, end
 use Rattle.txbuf.specs.Promises.{TakesOldest, FlushTakesOldest, FlushProgresses, FirstPieceIsOldest, PiecesAreHeld}
 use Rattle.txbuf.specs.declared.record.TxBuf.{TxBuf}
 use Rattle.txbuf.specs.declared.flush.Flushed.{Flushed}
-use Rattle.txbuf.proofs.RecordLaws.{Sound, sound-says, is-sound, held-length, next-length}
-use Rattle.txbuf.proofs.AnswerLaws.{flush-told}
+use Rattle.txbuf.proofs.RecordLaws.{Sound, sound-says, is-sound, held-length, used-advanced, next-length}
+use Rattle.txbuf.proofs.AnswerLaws.{flush-told, sound-done, not-over}
 use Rattle.txbuf.proofs.RingLaws.{held-cong, held-run, held-take, held-drop}
 
 -- ---- a ring with bytes taken from its tail
-
-used-advanced : (h t k : ℕ) → h < 2 ^ 32 → t < 2 ^ 32 → k ≤ wsub h t → wsub h (wadd t k) ≡ wsub h t - k
-used-advanced h t k p q l = omega arith
 
 pub advanced-none : (b : TxBuf) → Wide b → advanced b 0 ≡ b
 advanced-none b w = ap (λ (i : ℕ). record { size = b .size; head = b .head; tail = i }) (ap (λ (i : ℕ). i % 2 ^ 32) (add-zero (b .tail)) ∙ mod-eq-of-lt (w .tail))
@@ -619,17 +616,6 @@ nothing-held b st s w e =
 pub something-held : (b : TxBuf) (st : List ℕ) → Sound b (length st) → Wide b → (length (firstPiece b st) ≡ 0 → ⊥) → 0 < usedOf b
 something-held b st s w n =
     ⊎-elim (λ (l : 0 < usedOf b). l) (λ (l : usedOf b ≤ 0). let m = piece-length b st s w in absurd (n (omega arith))) (lt-or-ge 0 (usedOf b))
-
--- what an answer that is Done says
-sound-done : (i : FlushIn) → flushAnswer i ≡ Done → Sound (i .ring) (length (i .store))
-unfolding flushAnswer recordAnswer
-sound-done i d =
-    let r = lowest-passed _ _ (lowest-passed _ _ d .0) .0 in
-    sound-says _ _ (not-false _ (door-passed _ _ _ _ r .record-ok))
-
-not-over : (i : FlushIn) → flushAnswer i ≡ Done → flushOver i ≡ false
-unfolding flushAnswer
-not-over i d = late-passed _ _ (lowest-passed _ _ (lowest-passed _ _ d .0) .1) .answer-ok
 
 count-le : (i : FlushIn) → flushAnswer i ≡ Done → flushCount i ≤ usedOf (i .ring)
 unfolding flushCount flushOver

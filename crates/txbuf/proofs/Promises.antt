@@ -1,4 +1,4 @@
--- The promises of specs/Promises and specs/Answers, each by its law. Assumes nothing.
+-- The promises of specs/Promises, specs/Means, specs/Answers and specs/Outcomes, each by its law. Assumes nothing.
 use mathlib.Core.Path.{refl}
 use Rattle.defs.specs.Choice.{when}
 use Rattle.defs.specs.Answer.{isDone, whenDone}
@@ -12,7 +12,9 @@ use Rattle.txbuf.specs.Edges.{readingBCD, readingF}
 use Rattle.txbuf.specs.Promises.{TwoRunsAreOneWrite, HeldIsCounted, PushAppends, FirstPieceIsOldest, PiecesAreHeld, FlushTakesOldest, FlushProgresses, EdgesHold}
 use Rattle.txbuf.specs.Answers.{PushAnswers, NumberedAnswers, FlushAnswers, NewAnswers, LookAnswers}
 use Rattle.txbuf.specs.Means.{SoundMeans}
+use Rattle.txbuf.specs.Outcomes.{RefusalsChangeNothing, NineAndTenChangeNothing, SoundStaysSound, NewIsEmpty, EveryPushMeans, EveryFlushMeans, UnreachedIsIgnored, LooksMean}
 use Rattle.txbuf.proofs.AnswerLaws as answers
+use Rattle.txbuf.proofs.OutcomeLaws as outcomes
 use Rattle.txbuf.proofs.RecordLaws as records
 use Rattle.txbuf.proofs.RingLaws as rings
 use Rattle.txbuf.proofs.PushLaws as pushes
@@ -56,6 +58,30 @@ new-answers = answers.new-answers
 
 pub look-answers : LookAnswers
 look-answers = answers.look-answers
+
+pub refusals-change-nothing : RefusalsChangeNothing
+refusals-change-nothing = answers.refusals-change-nothing
+
+pub nine-and-ten-change-nothing : NineAndTenChangeNothing
+nine-and-ten-change-nothing = answers.nine-and-ten-change-nothing
+
+pub sound-stays-sound : SoundStaysSound
+sound-stays-sound = outcomes.sound-stays-sound
+
+pub new-is-empty : NewIsEmpty
+new-is-empty = outcomes.new-is-empty
+
+pub every-push-means : EveryPushMeans
+every-push-means = outcomes.every-push-means
+
+pub every-flush-means : EveryFlushMeans
+every-flush-means = outcomes.every-flush-means
+
+pub unreached-is-ignored : UnreachedIsIgnored
+unreached-is-ignored = outcomes.unreached-is-ignored
+
+pub looks-mean : LooksMean
+looks-mean = outcomes.looks-mean
 
 pub edges-hold : EdgesHold
 unfolding when isDone whenDone isRingSize isPacketLength doorOf lateOf lowestOf copied soundRecord soundOf recordAnswer heldFrom held runs pushAnswer pushDone pushKept pushOf firstPiece takenBy overBy endsBy flushCount flushOver flushAnswer secondPiece flushDone flushKept flushOf readingBCD readingF

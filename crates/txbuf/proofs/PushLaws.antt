@@ -1,33 +1,30 @@
 -- Laws of `push`: the two runs that the code makes, what each answer says of the record, and that a push appends. Assumes nothing.
 use Prim.Native.Nat.{ℕ, _+_, _-_, _%_, _^_, _<_, _≤_, min}
-use mathlib.Core.Path.{_≡_, refl, sym, ap, _∙_}
+use mathlib.Core.Path.{_≡_, sym, ap, _∙_}
 use mathlib.Core.Logic.{⊎-elim}
-use mathlib.Core.Bool.{Bool, true, false}
 use mathlib.Core.List.{List, [], _++_, append-nil}
 use native.Mathlib.Omega.{arith}
 use lib.ListN.{length, take, drop, length-drop, drop-of-length-le}
 use lib.Seq.{take-all}
-use borrow.Author.Tests.{ltb-false, le-ltb, not-false}
+use borrow.Author.Tests.{le-ltb}
 use Rattle.defs.specs.Choice.{when}
 use Rattle.defs.specs.Answer.{told, isDone, whenDone}
-use Rattle.defs.specs.Limits.{maxPacket}
 use Rattle.defs.specs.Ladder.{doorOf, lowestOf}
 use Rattle.defs.specs.Wrapping.{wadd, wsub}
 use Rattle.defs.specs.Copying.{copied}
 use Rattle.defs.specs.declared.answer.Answer.{Answer}
-use Rattle.defs.specs.declared.answer.Answer.the-variants.{Done, TxBufFull}
+use Rattle.defs.specs.declared.answer.Answer.the-variants.{Done}
 use Rattle.defs.proofs.Basics.{lt-or-ge}
 use Rattle.defs.proofs.AnswerLaws.{NotDone, not-done, when-done, when-not-done, told-tells-apart}
-use Rattle.defs.proofs.LadderLaws.{lowest-passed, door-passed}
 use Rattle.defs.proofs.LimitLaws.{packet-length}
 use Rattle.defs.proofs.WrappingLaws.{keeps-place}
 use Rattle.txbuf.specs.Record.{Wide, usedOf, heldFrom, held}
 use Rattle.txbuf.specs.Push.{runs, written, PushIn, PushLeft, pushAnswer, pushAnswerOf, pushDone, pushKept, pushOf}
 use Rattle.txbuf.specs.Promises.{PushAppends}
 use Rattle.txbuf.specs.declared.record.TxBuf.{TxBuf}
-use Rattle.txbuf.proofs.RecordLaws.{Sound, sound-says, is-sound}
-use Rattle.txbuf.proofs.AnswerLaws.{push-told}
-use Rattle.txbuf.proofs.RingLaws.{write-cong, held-write, two-runs}
+use Rattle.txbuf.proofs.RecordLaws.{Sound, is-sound, used-after}
+use Rattle.txbuf.proofs.AnswerLaws.{push-told, Ready, ready}
+use Rattle.txbuf.proofs.RingLaws.{write-cong, held-write, runs-written}
 
 -- ---- the code's two copies
 
@@ -52,28 +49,7 @@ runs-are st src y z at n e f g =
     ∙ ap (λ (x : List ℕ). copied (take at st ++ copied x src) (take (length src - n) (drop n src))) (take-all k (drop at st) (omega arith))
     ∙ ap (copied (take at st ++ copied (drop at st) src)) (take-all (length src - n) (drop n src) (omega arith) ∙ left)
 
--- ---- what a push that is done says of its record
-
-pub record Ready (b : TxBuf) (storage bytes : ℕ) : Type 0 where
-  pub sound : Sound b storage
-  pub short : bytes ≤ maxPacket
-  pub room : usedOf b + bytes ≤ storage
-
-full-not : (t : Bool) → when t TxBufFull Done ≡ Done → t ≡ false
-unfolding when
-full-not true e = let z : _≡_ {A = ℕ} 9 0 = ap (λ (a : Answer). told a .number) e in absurd (omega arith)
-full-not false e = refl
-
-pub ready : (b : TxBuf) (storage bytes : ℕ) → pushAnswer b storage bytes ≡ Done → Ready b storage bytes
-unfolding pushAnswer
-ready b storage bytes e =
-    let u = lowest-passed _ _ e in
-    let d = door-passed _ _ _ _ (u .0) in
-    record {
-      sound = sound-says b storage (not-false _ (d .record-ok));
-      short = packet-length bytes .0 (not-false _ (d .length-ok));
-      room = ltb-false _ _ (full-not _ (u .1));
-    }
+-- ---- what a push needs to be done
 
 pub is-ready : (b : TxBuf) (storage bytes : ℕ) → Ready b storage bytes → pushAnswer b storage bytes ≡ Done
 unfolding pushAnswer lowestOf doorOf whenDone isDone when
@@ -100,9 +76,6 @@ push-left i a h x e d f g = rw (push-is-done i (sym e ∙ d), d, f, g)
 
 -- ---- a push appends
 
-used-after : (h t m : ℕ) → h < 2 ^ 32 → t < 2 ^ 32 → wsub h t + m < 2 ^ 32 → wsub (wadd h m) t ≡ wsub h t + m
-used-after h t m p q l = omega arith
-
 -- the head lies as many bytes past the tail as are held
 pub head-at : (b : TxBuf) (n : ℕ) → Sound b n → b .tail < 2 ^ 32 → b .head % b .size ≡ (b .tail + usedOf b) % b .size
 head-at b n s t = sym (keeps-place .difference (b .size) (b .head) (b .tail) (s .sized) t) ∙ ap (λ (k : ℕ). k % b .size) (let e : usedOf b + b .tail ≡ b .tail + usedOf b = omega arith in e)
@@ -117,9 +90,7 @@ push-done-appends i wide d =
     let w : length st ≡ b .size = r .sound .whole in
     let u : wsub (wadd (b .head) (length src)) (b .tail) ≡ usedOf b + length src = used-after (b .head) (b .tail) (length src) (wide .head) (wide .tail) (let s = r .sound in omega arith) in
     let x : runs st (b .head % b .size) src ≡ written st (b .size) (b .tail + usedOf b) src =
-    ap (λ (n : ℕ). runs st (b .head % n) src) (sym w)
-    ∙ two-runs st src (b .head) (let s = r .sound in omega arith) (omega arith)
-    ∙ ap (λ (n : ℕ). written st n (b .head) src) w
+    runs-written st src (b .head) (b .size) w (let s = r .sound in omega arith) (omega arith)
     ∙ write-cong (b .size) src st _ _ (head-at b (length st) (r .sound) (wide .tail)) in
     rw (push-is-done i d)
     (ap (λ (n : ℕ). heldFrom (runs st (b .head % b .size) src) (b .size) (b .tail) n) u

@@ -1,5 +1,5 @@
 -- Laws of the ring's record: what soundness says, and what is held. Assumes nothing.
-use Prim.Native.Nat.{ℕ, zero, suc, _+_, _-_, _%_, _<_, _≤_, min}
+use Prim.Native.Nat.{ℕ, zero, suc, _+_, _-_, _%_, _^_, _<_, _≤_, min}
 use mathlib.Core.Path.{_≡_, refl, sym, ap, _∙_}
 use mathlib.Core.Logic.{⊎-elim}
 use mathlib.Core.Bool.{true}
@@ -13,6 +13,7 @@ use borrow.Author.Tests.{leb-true, eqb-true, le-leb, eq-eqb}
 use Rattle.defs.specs.Limits.{minRing, maxRing, isRingSize}
 use Rattle.defs.proofs.Basics.{both, lt-or-ge}
 use Rattle.defs.specs.Promises.{Exactly}
+use Rattle.defs.specs.Wrapping.{wadd, wsub}
 use Rattle.defs.proofs.LimitLaws.{ring-size, ring-sizes}
 use Rattle.defs.proofs.MeansLaws.{and-means, within-means, equal-means}
 use Rattle.txbuf.specs.Record.{usedOf, soundRecord, soundOf, heldFrom, held}
@@ -50,6 +51,13 @@ sound-says b n e =
 pub is-sound : (b : TxBuf) (n : ℕ) → Sound b n → soundOf b n ≡ true
 unfolding soundOf soundRecord
 is-sound b n s = simp (s .sized, le-leb _ _ (s .within), eq-eqb _ _ (s .whole))
+
+-- what is held once bytes are pushed, and once they are taken
+pub used-after : (h t m : ℕ) → h < 2 ^ 32 → t < 2 ^ 32 → wsub h t + m < 2 ^ 32 → wsub (wadd h m) t ≡ wsub h t + m
+used-after h t m p q l = omega arith
+
+pub used-advanced : (h t k : ℕ) → h < 2 ^ 32 → t < 2 ^ 32 → k ≤ wsub h t → wsub h (wadd t k) ≡ wsub h t - k
+used-advanced h t k p q l = omega arith
 
 -- an offset into the storage, whichever counter it is of
 pub offset-fits : (x size : ℕ) → 0 < size → size ≤ maxRing → Fits w64 (x % size)

@@ -160,3 +160,23 @@ two-runs st src h p l =
     ∙ sym (sets-eq src st a (omega arith))
     ∙ sym (write-run R src st h a refl (omega arith)))
     (lt-or-ge k (length src))
+
+-- the same for a ring whose size is the storage's length
+pub runs-written : (st src : List ℕ) (h R : ℕ) → length st ≡ R → 0 < R → length src ≤ R → runs st (h % R) src ≡ written st R h src
+runs-written st src h R e p l =
+    ap (λ (n : ℕ). runs st (h % n) src) (sym e) ∙ two-runs st src h (omega arith) (omega arith) ∙ ap (λ (n : ℕ). written st n h src) e
+
+-- a write leaves the length, and every place that it does not meet
+pub written-length : (R : ℕ) (src st : List ℕ) (h : ℕ) → length (written st R h src) ≡ length st
+unfolding written
+written-length R [] st h = refl
+written-length R (x ∷ xs) st h = written-length R xs (set st (h % R) x) (suc h) ∙ length-set st (h % R) x
+
+pub written-other : (R : ℕ) (src st : List ℕ) (h place : ℕ) → ((k : ℕ) → k < length src → (h + k) % R ≡ place → ⊥)
+    → getD (written st R h src) place 0 ≡ getD st place 0
+unfolding written
+written-other R [] st h place n = refl
+written-other R (x ∷ xs) st h place n =
+    written-other R xs (set st (h % R) x) (suc h) place
+    (λ (k : ℕ) l e. n (suc k) (omega arith) (ap (λ (y : ℕ). y % R) (let z : h + suc k ≡ suc h + k = omega arith in z) ∙ e))
+    ∙ getD-set-other st (h % R) place x 0 (λ (e : place ≡ h % R). n 0 (omega arith) (ap (λ (y : ℕ). y % R) (add-zero h) ∙ sym e))

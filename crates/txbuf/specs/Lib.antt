@@ -4,4 +4,5 @@ pub mod Flush
 pub mod Means
 pub mod Edges
 pub mod Answers
+pub mod Outcomes
 pub mod Promises

@@ -1,4 +1,4 @@
--- What this crate promises besides specs/Answers, in statements only; proofs/Promises has a line for each. Assumes nothing.
+-- What this crate promises besides specs/Means, specs/Answers and specs/Outcomes, in statements only; proofs/Promises has a line for each. Assumes nothing.
 use Prim.Native.Nat.{ℕ, suc, _%_, _<_, _≤_}
 use mathlib.Core.Path.{_≡_}
 use mathlib.Core.Bool.{true}

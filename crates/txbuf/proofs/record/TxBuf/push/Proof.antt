@@ -5,7 +5,8 @@ use denote.Ref.{now}
 use borrow.Author.Needs.{needs}
 use lib.ListN.{length}
 use Rattle.txbuf.proofs.RecordLaws.{offset-fits, offset-in}
-use Rattle.txbuf.proofs.PushLaws.{Ready, ready, push-refused, push-left}
+use Rattle.txbuf.proofs.AnswerLaws.{Ready, ready}
+use Rattle.txbuf.proofs.PushLaws.{push-refused, push-left}
 use Rattle.txbuf.proofs.record.TxBuf.push.Statement.{statement}
 use Rattle.txbuf.proofs.record.TxBuf.push.Tie as tie
 
