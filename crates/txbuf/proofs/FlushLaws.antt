@@ -30,10 +30,10 @@ use Rattle.defs.proofs.CopyLaws.{copied-fits}
 use Rattle.defs.proofs.WrappingLaws.{keeps-place}
 use Rattle.txbuf.specs.Record.{Wide, usedOf, soundOf, heldFrom, held}
 use Rattle.txbuf.specs.Flush.{pieceLen, firstPiece, takenBy, overBy, endsBy, FlushIn, FlushLeft, inTurn, flushCount, flushOver, flushAnswer, advanced, secondPiece, flushDone, flushKept, flushOf, FlushSays, finishAnswer, finishOf}
-use Rattle.txbuf.specs.Promises.{TakesOldest, FlushTakesOldest, FlushProgresses, FirstPieceIsOldest, PiecesAreHeld}
+use Rattle.txbuf.specs.Promises.{TakesOldest, FlushTakesOldest, FlushProgresses, FirstPieceIsOldest, UnsoundHasNoPiece, PiecesAreHeld}
 use Rattle.txbuf.specs.declared.record.TxBuf.{TxBuf}
 use Rattle.txbuf.specs.declared.flush.Flushed.{Flushed}
-use Rattle.txbuf.proofs.RecordLaws.{Sound, sound-says, is-sound, held-length, used-advanced, next-length}
+use Rattle.txbuf.proofs.RecordLaws.{sound-means, Sound, sound-says, is-sound, held-length, used-advanced, next-length}
 use Rattle.txbuf.proofs.AnswerLaws.{flush-told, sound-done, not-over}
 use Rattle.txbuf.proofs.RingLaws.{held-cong, held-run, held-take, held-drop}
 
@@ -682,7 +682,14 @@ flush-progresses i left n w says done e l =
     fewer (usedOf (left .ring)) (usedOf (i .ring)) (flushCount i) u p l
 
 pub first-piece-is-oldest : FirstPieceIsOldest
-first-piece-is-oldest b store w s = piece-held b store (sound-says b (length store) s) w
+first-piece-is-oldest b store w s = piece-held b store (sound-says b (length store) (sound-means .over b (length store) .1 s)) w
+
+pub unsound-has-no-piece : UnsoundHasNoPiece
+unsound-has-no-piece b store n =
+    ⊎-elim
+    (λ (t : soundOf b (length store) ≡ true). absurd (n (sound-means .over b (length store) .0 t)))
+    (λ (t : soundOf b (length store) ≡ false). sym (no-piece b store t))
+    (true-or-false (soundOf b (length store)))
 
 -- what a flush that is done answers
 pub flushed-told : (i : FlushIn) → flushAnswer i ≡ Done → flushOf i .answer ≡ told Done

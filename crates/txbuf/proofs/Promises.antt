@@ -9,7 +9,7 @@ use Rattle.txbuf.specs.Record.{soundRecord, soundOf, heldFrom, held}
 use Rattle.txbuf.specs.Push.{runs, pushAnswer, pushDone, pushKept, pushOf}
 use Rattle.txbuf.specs.Flush.{firstPiece, takenBy, overBy, endsBy, flushCount, flushOver, flushAnswer, secondPiece, flushDone, flushKept, flushOf}
 use Rattle.txbuf.specs.Edges.{readingBCD, readingF}
-use Rattle.txbuf.specs.Promises.{TwoRunsAreOneWrite, HeldIsCounted, PushAppends, FirstPieceIsOldest, PiecesAreHeld, FlushTakesOldest, FlushProgresses, EdgesHold}
+use Rattle.txbuf.specs.Promises.{TwoRunsAreOneWrite, HeldIsCounted, PushAppends, FirstPieceIsOldest, UnsoundHasNoPiece, PiecesAreHeld, FlushTakesOldest, FlushProgresses, EdgesHold}
 use Rattle.txbuf.specs.Answers.{PushAnswers, NumberedAnswers, FlushAnswers, NewAnswers, LookAnswers}
 use Rattle.txbuf.specs.Means.{SoundMeans}
 use Rattle.txbuf.specs.Outcomes.{RefusalsChangeNothing, NineAndTenChangeNothing, SoundStaysSound, NewIsEmpty, EveryPushMeans, EveryFlushMeans, UnreachedIsIgnored, LooksMean}
@@ -34,6 +34,9 @@ push-appends = pushes.push-appends
 
 pub first-piece-is-oldest : FirstPieceIsOldest
 first-piece-is-oldest = flushes.first-piece-is-oldest
+
+pub unsound-has-no-piece : UnsoundHasNoPiece
+unsound-has-no-piece = flushes.unsound-has-no-piece
 
 pub pieces-are-held : PiecesAreHeld
 pieces-are-held = flushes.pieces-are-held

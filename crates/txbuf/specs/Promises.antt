@@ -2,7 +2,7 @@
 use Prim.Native.Nat.{ℕ, suc, _%_, _<_, _≤_}
 use mathlib.Core.Path.{_≡_}
 use mathlib.Core.Bool.{true}
-use mathlib.Core.List.{List, _++_}
+use mathlib.Core.List.{List, [], _++_}
 use lib.ListN.{length, take, drop}
 use Rattle.defs.specs.Answer.{told}
 use Rattle.defs.specs.Reading.{Hold}
@@ -10,7 +10,8 @@ use Rattle.defs.specs.declared.answer.Answer.the-variants.{Done}
 use Rattle.defs.specs.declared.stream.StreamAnswer.the-variants.{Count}
 use Rattle.txbuf.specs.Record.{Wide, usedOf, soundOf, held}
 use Rattle.txbuf.specs.Push.{runs, written, PushIn, PushLeft, PushSays}
-use Rattle.txbuf.specs.Flush.{pieceLen, firstPiece, secondPiece, FlushIn, FlushLeft, FlushSays}
+use Rattle.txbuf.specs.Flush.{firstPiece, secondPiece, FlushIn, FlushLeft, FlushSays}
+use Rattle.txbuf.specs.Means.{SoundOver, firstLength}
 use Rattle.txbuf.specs.Edges.{readingBCD, readingF}
 use Rattle.txbuf.specs.declared.record.TxBuf.{TxBuf}
 
@@ -29,11 +30,13 @@ PushAppends =
     (i : PushIn) (left : PushLeft) → Wide (i .ring) → PushSays i left → left .answer ≡ told Done
     → held (left .ring) (left .store) ≡ held (i .ring) (i .store) ++ i .src
 
--- the first piece of a sound ring is the front of what is held
+-- the first piece of a sound ring is the front of what is held, to the storage's end or the head
 abbrev pub FirstPieceIsOldest : Type 0
-FirstPieceIsOldest =
-    (b : TxBuf) (store : List ℕ) → Wide b → soundOf b (length store) ≡ true
-    → firstPiece b store ≡ take (pieceLen (b .size) (b .tail) (usedOf b)) (held b store)
+FirstPieceIsOldest = (b : TxBuf) (store : List ℕ) → Wide b → SoundOver b (length store) → firstPiece b store ≡ take (firstLength b) (held b store)
+
+-- a ring that is not sound has none
+abbrev pub UnsoundHasNoPiece : Type 0
+UnsoundHasNoPiece = (b : TxBuf) (store : List ℕ) → (SoundOver b (length store) → ⊥) → firstPiece b store ≡ []
 
 -- the two pieces of a sound ring are all that is held
 abbrev pub PiecesAreHeld : Type 0
