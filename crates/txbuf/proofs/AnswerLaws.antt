@@ -163,7 +163,8 @@ over-is i s =
     let q : pieceLen (b .size) (b .tail + p) (n - p) ≡ n - p = next-length (b .size) (b .tail) (b .tail + p) n (omega (arith, r .least)) (r .within) refl in
     let k = counted (i .answers .first) in
     let l = counted (i .answers .second) in
-    rw (q, none-is n, none-is (n - p)) (over-by (ltb 0 n) (ltb p k) (eqb k p) (ltb 0 (n - p)) (ltb (n - p) l) (eqb l (n - p)) (left-none n p))
+    ap (λ (x : ℕ). not (eqb n 0) && (ltb p k || eqb k p && (not (eqb (n - p) 0) && (ltb x l || eqb l x && false)))) q
+    ∙ rw (none-is n, none-is (n - p)) (over-by (ltb 0 n) (ltb p k) (eqb k p) (ltb 0 (n - p)) (ltb (n - p) l) (eqb l (n - p)) (left-none n p))
 
 end-by : (some : Bool) (a : StreamAnswer) → told (when (not some) Done (stoppedBy a)) .number ≡ firstInTurn ((10, some && stops a) ∷ [])
 unfolding when

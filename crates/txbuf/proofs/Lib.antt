@@ -1,7 +1,7 @@
 pub mod RecordLaws
 pub mod AnswerLaws
 pub mod RingLaws
-pub mod OutcomeLaws
+pub mod DoneLaws
 pub mod PushLaws
 pub mod FlushLaws
 pub mod Promises

@@ -14,7 +14,7 @@ use Rattle.txbuf.specs.Answers.{PushAnswers, NumberedAnswers, FlushAnswe
 use Rattle.txbuf.specs.Means.{SoundMeans}
 use Rattle.txbuf.specs.Outcomes.{RefusalsChangeNothing, NineAndTenChangeNothing, SoundStaysSound, NewIsEmpty, EveryPushMeans, EveryFlushMeans, UnreachedIsIgnored, LooksMean}
 use Rattle.txbuf.proofs.AnswerLaws as answers
-use Rattle.txbuf.proofs.OutcomeLaws as outcomes
+use Rattle.txbuf.proofs.DoneLaws as done
 use Rattle.txbuf.proofs.RecordLaws as records
 use Rattle.txbuf.proofs.RingLaws as rings
 use Rattle.txbuf.proofs.PushLaws as pushes
@@ -69,22 +69,22 @@ pub nine-and-ten-change-nothing : NineAndTenChangeNothing
 nine-and-ten-change-nothing = answers.nine-and-ten-change-nothing
 
 pub sound-stays-sound : SoundStaysSound
-sound-stays-sound = outcomes.sound-stays-sound
+sound-stays-sound = done.sound-stays-sound
 
 pub new-is-empty : NewIsEmpty
-new-is-empty = outcomes.new-is-empty
+new-is-empty = done.new-is-empty
 
 pub every-push-means : EveryPushMeans
-every-push-means = outcomes.every-push-means
+every-push-means = done.every-push-means
 
 pub every-flush-means : EveryFlushMeans
-every-flush-means = outcomes.every-flush-means
+every-flush-means = done.every-flush-means
 
 pub unreached-is-ignored : UnreachedIsIgnored
-unreached-is-ignored = outcomes.unreached-is-ignored
+unreached-is-ignored = done.unreached-is-ignored
 
 pub looks-mean : LooksMean
-looks-mean = outcomes.looks-mean
+looks-mean = done.looks-mean
 
 pub edges-hold : EdgesHold
 unfolding when isDone whenDone isRingSize isPacketLength doorOf lateOf lowestOf copied soundRecord soundOf recordAnswer heldFrom held runs pushAnswer pushDone pushKept pushOf firstPiece takenBy overBy endsBy flushCount flushOver flushAnswer secondPiece flushDone flushKept flushOf readingBCD readingF

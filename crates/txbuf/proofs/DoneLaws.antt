@@ -1,14 +1,14 @@
--- What a call on a ring leaves, by 01's words over what it was given. Assumes nothing.
+-- What a call on a ring that is done leaves, by 01's words over what it was given. Assumes nothing.
 use Prim.Native.Nat.{ℕ, _≤_, _+_, zero-le}
 use mathlib.Core.Path.{_≡_, refl, sym, ap, subst, _∙_}
 use mathlib.Core.Bool.{Bool, true, false, _&&_}
-use mathlib.Core.List.{List, _++_}
+use mathlib.Core.List.{List}
 use native.Mathlib.Omega.{arith}
 use lib.Dec.{ltb, eqb}
-use lib.ListN.{length, getD, take, drop}
+use lib.ListN.{length, getD}
 use borrow.Author.Tests.{ltb-false, le-ltb}
 use Rattle.defs.specs.Choice.{when}
-use Rattle.defs.specs.Answer.{Told, told, isDone, whenDone}
+use Rattle.defs.specs.Answer.{Told, isDone, whenDone}
 use Rattle.defs.specs.Ladder.{doorOf, lateOf, lowestOf, recordAnswer}
 use Rattle.defs.specs.Limits.{isRingSize}
 use Rattle.defs.specs.Look.{LenLeft, lenOf, FlagLeft, flagOf}
@@ -23,7 +23,7 @@ use Rattle.defs.proofs.LimitLaws.{ring-sizes}
 use Rattle.defs.proofs.MeansLaws.{equal-means}
 use Rattle.txbuf.specs.Record.{Wide, usedOf, soundOf, held, NewLeft, newOf, lookAnswer}
 use Rattle.txbuf.specs.Push.{written, PushIn, PushLeft, pushAnswerOf, pushDone, pushOf}
-use Rattle.txbuf.specs.Flush.{advanced, FlushIn, FlushLeft, endsBy, flushAnswer, flushCount, flushOver, flushDone, flushKept, flushOf}
+use Rattle.txbuf.specs.Flush.{FlushIn, FlushLeft, endsBy, flushAnswer, flushCount, flushOver, flushDone, flushKept, flushOf}
 use Rattle.txbuf.specs.Means.{bytesHeld, Sound, SoundOver, firstLength, secondLength, usesFirst, usesSecond, countedNow}
 use Rattle.txbuf.specs.Outcomes.{SoundStaysSound, NewIsEmpty, EveryPushMeans, FlushMeans, EveryFlushMeans, withAnswers, UnreachedIsIgnored, LooksMean}
 use Rattle.txbuf.specs.declared.record.TxBuf.{TxBuf}
@@ -160,16 +160,10 @@ sound-stays-sound = record {
 
 -- ---- an answer that isn't reached
 
--- what a flush leaves, by its answer and its count
-abbrev leftBy : FlushIn → Answer → ℕ → FlushLeft
-leftBy i a c =
-    whenDone a
-    (record { answer = told Done; count = c; ring = advanced (i .ring) c; out = take c (held (i .ring) (i .store)) ++ drop c (i .out) })
-    (record { answer = told a; count = 0; ring = i .ring; out = i .out })
-
-left-by : (i : FlushIn) → flushOf i ≡ leftBy i (flushAnswer i) (flushCount i)
+same-left : (i : FlushIn) (a : StreamAnswers) → flushAnswer i ≡ flushAnswer (withAnswers i a) → flushCount i ≡ flushCount (withAnswers i a)
+    → flushOf i ≡ flushOf (withAnswers i a)
 unfolding flushOf flushDone flushKept
-left-by i = refl
+same-left i a e f = rw (e, f)
 
 answer-by : (sound : Bool) (late other end ending : Answer) → (sound ≡ true → (late ≡ other) × (end ≡ ending))
     → lowestOf (lowestOf (recordAnswer sound) late) end ≡ lowestOf (lowestOf (recordAnswer sound) other) ending
@@ -187,7 +181,7 @@ alike i a c t e =
     let answer : flushAnswer i ≡ flushAnswer j =
     answer-by (soundOf (i .ring) (length (i .store))) _ _ _ _
     (λ s. (ap (λ (b : Bool). lateOf b (ltb (length (i .out)) (flushCount i))) (over-is i s ∙ t ∙ sym (over-is j s)) ∙ ap (λ (m : ℕ). lateOf (flushOver j) (ltb (length (i .out)) m)) count, e)) in
-    left-by i ∙ ap (λ (x : Answer). leftBy i x (flushCount i)) answer ∙ ap (leftBy i (flushAnswer j)) count ∙ sym (left-by j)
+    same-left i a answer count
 
 -- nothing is held: no answer is used
 second-unused : (b : TxBuf) (a : StreamAnswers) → bytesHeld b ≡ 0 → usesSecond b a ≡ false
