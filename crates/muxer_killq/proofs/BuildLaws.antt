@@ -1,22 +1,20 @@
 -- Laws of `from_conn_map`: what a turn of the walk keeps, what a slot gives, the sort of what was collected, and the refusals. Assumes nothing.
 use Prim.Native.Nat.{ℕ, _+_, _<_}
-use mathlib.Core.Path.{_≡_, refl, ap, _∙_}
+use mathlib.Core.Path.{_≡_, ap, _∙_}
 use mathlib.Core.Bool.{Bool, true, false, _&&_}
 use mathlib.Core.List.{List, [], _∷_}
-use native.Mathlib.Omega.{arith}
 use lib.Dec.{leb}
-use lib.ListN.{length, getD, take, length-take}
+use lib.ListN.{length, getD}
 use Rattle.defs.specs.Ladder.{clockAnswer}
 use Rattle.defs.specs.Limits.{maxKillq, isKillqLimit}
 use Rattle.defs.specs.declared.answer.Answer.{Answer}
 use Rattle.defs.specs.declared.answer.Answer.the-variants.{Done}
-use Rattle.defs.proofs.Basics.{both}
 use Rattle.conn_map.specs.Table.{Slot, usedAt, slotAt, slotsOf, soundTable}
 use Rattle.conn_map.proofs.TableLaws as tables
 use Rattle.queue.specs.Queue.{holding}
 use Rattle.queue.proofs.QueueLaws.{queue-is-its-list}
 use Rattle.queue.proofs.WalkLaws as walks
-use Rattle.muxer_killq.specs.Queue.{killq, soundQ, items, pack}
+use Rattle.muxer_killq.specs.Queue.{killq, items, pack}
 use Rattle.muxer_killq.specs.Sort.{sortByTime}
 use Rattle.muxer_killq.specs.Build.{isAhead, itemOf, aheadOf, builtFrom, collected, marked, BuildIn, buildAnswer}
 use Rattle.muxer_killq.specs.declared.item.MuxerKillQItem.{MuxerKillQItem}
@@ -54,26 +52,17 @@ sorted-collected limit clock slots q r e f =
     f
     ∙ ap (λ (x : MuxerKillQ). holding killq x (sortByTime (items x)) (x .synced)) e
     ∙ ap (λ (l : List MuxerKillQItem). pack (sortByTime l) limit (leb (length (aheadOf clock slots)) limit))
-    (queue-is-its-list killq lawful .packed-items (take limit (aheadOf clock slots)) limit (leb (length (aheadOf clock slots)) limit))
+    (queue-is-its-list killq lawful .packed-items _ limit (leb (length (aheadOf clock slots)) limit))
 
 -- ---- the refusals
 
 module _ (i : BuildIn) (a : Answer) (e : a ≡ buildAnswer i) (d : a ≡ Done) where
-  passed : isKillqLimit (i .limit) && soundTable (i .ports) (i .used) (length (i .times)) ≡ true
+  pub passed : isKillqLimit (i .limit) && soundTable (i .ports) (i .used) (length (i .times)) ≡ true
   unfolding buildAnswer
   passed = clock-passed a _ _ e d
 
   pub ready : tables.Ready maxKillq (i .limit) (i .ports) (i .used) (i .times)
   ready = tables.ready _ _ _ _ _ (isKillqLimit (i .limit)) (lawful .limit-fits (i .limit)) passed
-
-  -- what a list of so many items makes
-  pub taken-sound : (l : List MuxerKillQItem) (synced : Bool) (slots : List Slot) → length l ≡ length (take (i .limit) (aheadOf (i .clock) slots)) → soundQ (pack l (i .limit) synced) ≡ true
-  taken-sound l synced slots n =
-      queue-is-its-list killq lawful .packed-sound l (i .limit) synced (both (isKillqLimit (i .limit)) _ passed .0) (omega (arith, length-take (i .limit) (aheadOf (i .clock) slots)))
-
-  pub collected-sound : (q : MuxerKillQ) (slots : List Slot) → q ≡ collected (i .limit) (i .clock) slots → soundQ q ≡ true
-  unfolding collected
-  collected-sound q slots f = ap soundQ f ∙ taken-sound (take (i .limit) (aheadOf (i .clock) slots)) _ slots refl
 
 pub build-answer : (i : BuildIn) (a : Answer) (l s : Bool) → a ≡ clockAnswer (l && s) (i .clock) → l ≡ isKillqLimit (i .limit)
     → s ≡ soundTable (i .ports) (i .used) (length (i .times)) → a ≡ buildAnswer i

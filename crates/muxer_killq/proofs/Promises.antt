@@ -1,8 +1,11 @@
--- The promises of specs/Promises, each by its law. Assumes nothing.
+-- The promises of specs/Promises and specs/Outcomes, each by its law. Assumes nothing.
 use Rattle.queue.proofs.QueueLaws as queues
 use Rattle.muxer_killq.specs.Queue.{killq}
 use Rattle.muxer_killq.specs.Promises.{QueueIsItsList, SoundStaysSound, PushAnswers, EverySortIsStable, EdgesHold}
+use Rattle.muxer_killq.specs.Outcomes.{SoundMeans, RefusalsChangeNothing, RefusedIsEmpty, EveryNewIsEmpty, BuiltHolds, EveryPushMeans, EveryPeekMeans, EveryPopMeans, EqualityMeans}
 use Rattle.muxer_killq.proofs.Edges as edges
+use Rattle.muxer_killq.proofs.OutcomeLaws as outcomes
+use Rattle.muxer_killq.proofs.QueueLaws as laws
 use Rattle.muxer_killq.proofs.QueueLaws.{lawful}
 use Rattle.muxer_killq.proofs.PushLaws as pushes
 use Rattle.muxer_killq.proofs.SoundLaws as sounds
@@ -19,6 +22,33 @@ every-sort-is-stable = sorts.every-sort-is-stable
 
 pub push-answers : PushAnswers
 push-answers = pushes.push-answers
+
+pub sound-means : SoundMeans
+sound-means = laws.sound-means
+
+pub refusals-change-nothing : RefusalsChangeNothing
+refusals-change-nothing = outcomes.refusals-change-nothing
+
+pub refused-is-empty : RefusedIsEmpty
+refused-is-empty = outcomes.refused-is-empty
+
+pub every-new-is-empty : EveryNewIsEmpty
+every-new-is-empty = outcomes.every-new-is-empty
+
+pub built-holds : BuiltHolds
+built-holds = outcomes.built-holds
+
+pub every-push-means : EveryPushMeans
+every-push-means = outcomes.every-push-means
+
+pub every-peek-means : EveryPeekMeans
+every-peek-means = outcomes.every-peek-means
+
+pub every-pop-means : EveryPopMeans
+every-pop-means = outcomes.every-pop-means
+
+pub equality-means : EqualityMeans
+equality-means = outcomes.equality-means
 
 pub edges-hold : EdgesHold
 edges-hold = edges.edges-hold

@@ -1,21 +1,38 @@
 -- What the calls leave is sound. Assumes nothing.
-use mathlib.Core.Path.{_≡_, refl}
-use mathlib.Core.Bool.{true}
-use lib.ListN.{take}
+use mathlib.Core.Path.{_≡_, refl, ap, _∙_}
+use mathlib.Core.Bool.{Bool, true}
+use mathlib.Core.List.{List}
+use native.Mathlib.Omega.{arith}
+use lib.ListN.{length, take, length-take}
+use Rattle.defs.specs.Limits.{isKillqLimit}
+use Rattle.defs.specs.declared.answer.Answer.{Answer}
 use Rattle.defs.specs.declared.answer.Answer.the-variants.{Done}
-use Rattle.conn_map.specs.Table.{slotsOf}
-use Rattle.queue.proofs.QueueLaws.{items-within}
+use Rattle.defs.proofs.Basics.{both}
+use Rattle.conn_map.specs.Table.{Slot, slotsOf}
+use Rattle.queue.proofs.QueueLaws.{queue-is-its-list, items-within}
 use Rattle.queue.proofs.QueuedLaws.{made-sound, new-sound, push-sound}
 use Rattle.queue.proofs.PopLaws.{pop-sound}
-use Rattle.muxer_killq.specs.Queue.{killq, soundQ, items}
+use Rattle.muxer_killq.specs.Queue.{killq, soundQ, items, pack}
 use Rattle.muxer_killq.specs.Push.{itemAt, pushList}
 use Rattle.muxer_killq.specs.Sort.{sortByTime}
-use Rattle.muxer_killq.specs.Build.{aheadOf, builtFrom, BuildIn, buildAnswer, buildOf}
+use Rattle.muxer_killq.specs.Build.{aheadOf, builtFrom, collected, BuildIn, buildAnswer, buildOf}
 use Rattle.muxer_killq.specs.Promises.{SoundStaysSound}
+use Rattle.muxer_killq.specs.declared.item.MuxerKillQItem.{MuxerKillQItem}
+use Rattle.muxer_killq.specs.declared.killq.MuxerKillQ.{MuxerKillQ}
 use Rattle.muxer_killq.proofs.QueueLaws.{lawful}
 use Rattle.muxer_killq.proofs.PushLaws.{push-within}
 use Rattle.muxer_killq.proofs.SortLaws.{sort-length}
-use Rattle.muxer_killq.proofs.BuildLaws.{taken-sound}
+use Rattle.muxer_killq.proofs.BuildLaws.{passed}
+
+-- what a list of so many items makes
+module _ (i : BuildIn) (a : Answer) (e : a ≡ buildAnswer i) (d : a ≡ Done) where
+  taken-sound : (l : List MuxerKillQItem) (synced : Bool) (slots : List Slot) → length l ≡ length (take (i .limit) (aheadOf (i .clock) slots)) → soundQ (pack l (i .limit) synced) ≡ true
+  taken-sound l synced slots n =
+      queue-is-its-list killq lawful .packed-sound l (i .limit) synced (both (isKillqLimit (i .limit)) _ (passed i a e d) .0) (omega (arith, length-take (i .limit) (aheadOf (i .clock) slots)))
+
+  pub collected-sound : (q : MuxerKillQ) (slots : List Slot) → q ≡ collected (i .limit) (i .clock) slots → soundQ q ≡ true
+  unfolding collected
+  collected-sound q slots f = ap soundQ f ∙ taken-sound (take (i .limit) (aheadOf (i .clock) slots)) _ slots refl
 
 built-sound : (i : BuildIn) → buildAnswer i ≡ Done → soundQ (builtFrom (i .limit) (i .clock) (slotsOf (i .ports) (i .used) (i .times))) ≡ true
 unfolding builtFrom

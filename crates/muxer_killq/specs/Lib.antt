@@ -6,3 +6,4 @@ pub mod Sort
 pub mod Build
 pub mod Edges
 pub mod Promises
+pub mod Outcomes

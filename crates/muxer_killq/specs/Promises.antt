@@ -17,7 +17,7 @@ use Rattle.muxer_killq.specs.Push.{PushIn, PushSays, turnsDown}
 use Rattle.muxer_killq.specs.Pop.{PopIn, PopLeft, PopSays}
 use Rattle.muxer_killq.specs.Sort.{sortByTime}
 use Rattle.muxer_killq.specs.Build.{BuildIn, BuildSays}
-use Rattle.muxer_killq.specs.Edges.{readingI, ties}
+use Rattle.muxer_killq.specs.Edges.{readingI, ties, builds}
 use Rattle.muxer_killq.specs.declared.item.MuxerKillQItem.{MuxerKillQItem}
 use Rattle.muxer_killq.specs.declared.killq.MuxerKillQ.{MuxerKillQ}
 
@@ -59,7 +59,8 @@ pub record SortIsStable (l : List MuxerKillQItem) : Type 0 where
 abbrev pub EverySortIsStable : Type 0
 EverySortIsStable = (l : List MuxerKillQItem) → SortIsStable l
 
--- 01's reading at the edge of this crate, and its rule on equal times
+-- 01's reading at the edge of this crate, its rule on equal times, and builds at the limit
 pub record EdgesHold : Type 0 where
   pub i : Hold readingI
   pub ties : Hold ties
+  pub builds : Hold builds

@@ -3,7 +3,8 @@ use borrow.Author.Needs.{needs}
 use denote.Ref.{now}
 use Rattle.queue.proofs.QueuedLaws.{made-kept, made-done}
 use Rattle.muxer_killq.specs.Build.{BuildIn, buildAnswer, buildOf}
-use Rattle.muxer_killq.proofs.BuildLaws.{ready, build-answer, collected-sound, sorted-collected}
+use Rattle.muxer_killq.proofs.BuildLaws.{ready, build-answer, sorted-collected}
+use Rattle.muxer_killq.proofs.SoundLaws.{collected-sound}
 use Rattle.muxer_killq.proofs.killq.MuxerKillQ.from_conn_map.Statement.{statement}
 use Rattle.muxer_killq.proofs.killq.MuxerKillQ.from_conn_map.Tie as tie
 
