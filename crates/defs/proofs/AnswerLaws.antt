@@ -73,6 +73,11 @@ pub when-not-done {ℓ} : {A : Type ℓ} (a : Answer) (x y : A) → isDone a ≡
 unfolding whenDone
 when-not-done a x y e = when-false x y (isDone a) e
 
+-- what holds of what is left either way holds of what is left
+pub when-done-holds {ℓ} : {A : Type ℓ} (P : A → Type 0) (a : Answer) (x y : A) → P x → P y → P (whenDone a x y)
+unfolding whenDone
+when-done-holds P a x y p q = when-holds P (isDone a) x y (λ t. p) (λ t. q)
+
 -- two choices by one answer are alike where they are alike if it is done
 pub when-done-alike : {A : Type 0} (a : Answer) (x y z : A) → (a ≡ Done → x ≡ y) → whenDone a x z ≡ whenDone a y z
 unfolding whenDone

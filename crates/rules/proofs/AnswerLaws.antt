@@ -98,7 +98,7 @@ event-number true true over room f e = ap (λ (a : Answer). told a .number) (e r
     late-number false true = refl
     late-number false false = refl
 
-notify-told : (i : NotifyIn) → notifyOf i .answer ≡ told (notifyAnswer i)
+pub notify-told : (i : NotifyIn) → notifyOf i .answer ≡ told (notifyAnswer i)
 unfolding notifyOf notifyDone notifyKept
 notify-told i = answer-told (λ (o : NotifyLeft). o .answer) (notifyAnswer i) (notifyDone i) (notifyKept i) refl refl
 

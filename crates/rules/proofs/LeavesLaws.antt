@@ -1,30 +1,40 @@
 -- What a packet and an event leave, whole: the promises of specs/Leaves. Assumes nothing.
-use Prim.Native.Nat.{ℕ, zero, suc, _+_, _-_, _/_, _%_, _<_, _≤_}
-use mathlib.Core.Path.{_≡_, refl, sym, ap, _∙_}
+use Prim.Native.Nat.{ℕ, zero, suc, _+_, _-_, _%_, _<_, _≤_}
+use mathlib.Core.Path.{_≡_, refl, sym, ap, subst, _∙_}
 use mathlib.Core.Logic.{⊎-elim}
 use mathlib.Core.Bool.{Bool, true, false, not, _&&_, _||_}
 use mathlib.Core.List.{List, _++_}
 use native.Mathlib.Omega.{arith}
-use native.Mathlib.Nat.{div-one}
+use native.Mathlib.Nat.{div-one, mod-lt}
 use lib.Dec.{ltb, leb, eqb}
 use lib.ListN.{length, take, drop, length-drop}
 use lib.Seq.{length-take-le}
 use borrow.Author.Tests.{ltb-false, eqb-true, ne-eqb, le-leb, not-true, not-false}
-use Rattle.defs.specs.Answer.{Told}
-use Rattle.defs.specs.Stream.{failed}
+use Rattle.defs.specs.Answer.{Told, told, isDone}
+use Rattle.defs.specs.Promises.{rowAt, FirstInTurn}
+use Rattle.defs.specs.Stream.{counted, failed, stops}
+use Rattle.defs.specs.declared.stream.StreamAnswer.{StreamAnswer}
+use Rattle.defs.specs.declared.stream.StreamAnswer.the-variants.{Count, WouldBlock, Failed}
 use Rattle.defs.specs.Choice.{when}
 use Rattle.defs.specs.Credit.{peerNeedsCreditUpdate}
 use Rattle.defs.specs.Wrapping.{wadd, wsub}
 use Rattle.defs.specs.declared.answer.Answer.the-variants.{Done}
-use Rattle.defs.proofs.Basics.{both, neither, true-or-false, and-false, or-true, or-false}
-use Rattle.defs.proofs.AnswerLaws.{number-zero}
-use Rattle.defs.proofs.ChoiceLaws.{when-true, when-false, when-same}
+use Rattle.defs.proofs.Basics.{never, both, neither, true-or-false, and-false, or-true, or-false}
+use Rattle.defs.proofs.AnswerLaws.{done-is-done, number-zero, is-done, when-done, when-not-done, when-done-holds, left-done}
+use Rattle.defs.proofs.LadderLaws.{lowest-passed, record-passed}
+use Rattle.defs.proofs.ChoiceLaws.{when-true, when-false, when-holds}
 use Rattle.packet.specs.Header.{decoded}
 use Rattle.packet.specs.Uapi.{opResponse, opShutdown, opRw, opCreditRequest}
 use Rattle.packet.specs.declared.hdr.VsockPacketHdr.{VsockPacketHdr}
-use Rattle.txbuf.specs.Record.{usedOf}
+use Rattle.txbuf.specs.Record.{usedOf, soundOf, held}
 use Rattle.txbuf.specs.Push.{runs, written, PushLeft, pushDone}
+use Rattle.txbuf.specs.Flush.{FlushLeft, flushAnswer, flushDone, flushKept, flushOf}
+use Rattle.txbuf.specs.Means.{firstLength, secondLength, usesFirst, usesSecond, countedNow}
+use Rattle.txbuf.specs.Answers.{flushRows}
 use Rattle.txbuf.proofs.RingLaws.{two-runs}
+use Rattle.txbuf.proofs.AnswerLaws.{count-is, flush-answers}
+use Rattle.txbuf.proofs.RecordLaws.{sound-says}
+use Rattle.txbuf.proofs.Promises.{flush-takes-oldest}
 use Rattle.txbuf.specs.declared.record.TxBuf.{TxBuf}
 use Rattle.csm.specs.State.{isLocalInit, isEstablished, recvOff, sendOff, shutBy, bothOff, asks}
 use Rattle.csm.specs.Pending.{marked}
@@ -36,14 +46,20 @@ use Rattle.csm.specs.declared.state.ConnState.{ConnState}
 use Rattle.csm.specs.declared.state.ConnState.the-variants.{LocalInit, PeerInit, Established, LocalClosed, PeerClosed, Killed}
 use Rattle.csm.specs.declared.timer.Timer.{Timer}
 use Rattle.csm.specs.declared.timer.Timer.the-variants.{Unset}
-use Rattle.rules.specs.Record.{sentOf, regrouped, quiet, withState, killedOf}
-use Rattle.rules.specs.Send.{heardOf, movedOf, updatedOf, onResponse, onShutdown, onCreditRequest, onData, ruleOf, planOf, SendIn, SendLeft, pktOf, sendPlan, sendAnswer, sendKills, sendCarried, sendDone, sendOf, carried, killsOf}
+use Rattle.rules.specs.Notify.{NotifyIn, NotifyLeft, seenOf, settledOf, drainedOf, absorbed, due, flushIn, flushed, notifyDoor, notifyAnswer, notifyDone, notifyKept, notifyOf}
+use Rattle.rules.specs.Record.{peerOf, sentOf, regrouped, quiet, withState, killedOf}
+use Rattle.rules.specs.Open.{ConnLeft}
+use Rattle.rules.specs.Look.{lookAnswer, killOf}
+use Rattle.rules.specs.Send.{heardOf, movedOf, updatedOf, onResponse, onShutdown, onCreditRequest, onData, ruleOf, planOf, SendIn, SendLeft, sendPlan, sendAnswer, sendKills, sendCarried, sendDone, sendKept, sendOf, carried}
+use Rattle.rules.specs.Moves.{Numbers}
 use Rattle.rules.specs.Outcomes.{meetsData, writesNow, takenNow, killsNow, fallsShort}
-use Rattle.rules.specs.Leaves.{pushedOn, shutsReceive, shutsSend, closedBy, closedNow, confirmed, dataKills, dataStays, stateNow, cleared, isOpen, lingersNow, timerNow, SendLeaves, EverySendLeaves}
+use Rattle.rules.specs.Leaves.{pushedOn, takenOff, shutsReceive, shutsSend, closedBy, closedNow, confirmed, dataKills, dataStays, stateNow, cleared, isOpen, lingersNow, timerNow, flushesNow, flushFails, flushEnds, SendLeaves, NotifyLeaves, EveryNotifyLeaves, EverySendLeaves, TimersArm, LastToldMoves}
 use Rattle.rules.specs.declared.record.VsockConnection.{VsockConnection}
 use Rattle.rules.specs.declared.plan.SendPlan.{SendPlan}
+use Rattle.rules.proofs.RecordLaws.{sound-over-ring}
+use Rattle.rules.proofs.AnswerLaws.{notify-told}
 use Rattle.rules.proofs.SendLaws.{passed}
-use Rattle.rules.proofs.OutcomeLaws.{send-number, done-left, goes, plan-len, plan-written, kills-now, stays-out, rule-data}
+use Rattle.rules.proofs.OutcomeLaws.{every-turn-leaves, send-number, done-left, goes, plan-len, plan-written, kills-now, stays-out, rule-data}
 
 -- ---- tables
 
@@ -406,6 +422,7 @@ module _ (i : SendIn) where
           (λ (e : eqb (decoded (i .hdr) .op) opRw ≡ true). rule-unmet heard _ (decoded (i .hdr)) (sendPlan i) _ _ _ (eqb-true _ _ e) (stays-out i m))
           (λ (e : eqb (decoded (i .hdr) .op) opRw ≡ false). rule-other heard _ (decoded (i .hdr)) (sendPlan i) _ _ _ a b e c)
           (true-or-false (eqb (decoded (i .hdr) .op) opRw))
+
       plain : (m : meetsData i ≡ false) → Shape i by
       plain m =
           ⊎-elim (λ (a : eqb (decoded (i .hdr) .op) opResponse ≡ true). by-response m (eqb-true _ _ a))
@@ -472,3 +489,257 @@ every-send-leaves i o says n =
     let d = sent-done i o says n in
     let z = done-left i o says n in
     leaves i _ o (shape i d) (ap (λ (x : SendLeft). x .conn) z) (ap (λ (x : SendLeft). x .store) z ∙ store-now i d) (ap (λ (x : SendLeft). x .out) z ∙ out-now i)
+
+-- ---- an event
+
+sum-none : (b u : Bool) (x y : ℕ) → x ≡ 0 → u ≡ false → when b x 0 + when u y 0 ≡ 0
+unfolding when
+sum-none true u x y e f = rw (e, f)
+sum-none false u x y e f = rw f
+
+-- the record after an event by what it may move
+abbrev noted : VsockConnection → TxBuf → ℕ → ConnState → Bool → Bool → Bool → VsockConnection
+noted c ring n s rst readable update =
+    regrouped c (peerOf c) (record { ring = ring; count = n }) (sentOf c) (record { state = s; expiry = c .expiry; pending = marked (c .«pending_rx») rst readable update })
+
+-- the threshold rule, with the ring and the count that a flush leaves
+abbrev shortOf : VsockConnection → TxBuf → ℕ → Bool
+shortOf c ring n = ltb (wsub (ring .size) (wsub n (c .«last_fwd_cnt_to_peer»))) (c .settings .threshold)
+
+module _ (c : VsockConnection) (readable : Bool) (ring : TxBuf) (n : ℕ) where
+  abbrev ahead : VsockConnection
+  ahead = movedOf (seenOf c readable) ring n
+
+  drained-dead : (empty : Bool) → drainedOf (seenOf c readable) ring n empty true ≡ noted c ring (wadd (c .«fwd_cnt») n) Killed true readable (shortOf c ring (wadd (c .«fwd_cnt») n))
+  unfolding drainedOf settledOf killedOf updatedOf movedOf seenOf withState peerNeedsCreditUpdate when
+  drained-dead empty = simp (or-false, or-true)
+
+  drained-alive : (empty : Bool)
+      → drainedOf (seenOf c readable) ring n empty false
+      ≡ noted c ring (wadd (c .«fwd_cnt») n) (c .state) (bothOff (c .state) && empty) readable (not (bothOff (c .state) && empty) && shortOf c ring (wadd (c .«fwd_cnt») n))
+  unfolding drainedOf settledOf updatedOf movedOf seenOf withState peerNeedsCreditUpdate when
+  drained-alive empty = by-end (bothOff (c .state) && empty)
+    where
+      by-end : (b : Bool)
+          → when b (withState ahead (ahead .state) (ahead .expiry) (marked (ahead .«pending_rx») true false false)) (updatedOf ahead)
+          ≡ noted c ring (wadd (c .«fwd_cnt») n) (c .state) b readable (not b && shortOf c ring (wadd (c .«fwd_cnt») n))
+      by-end true = simp (or-false, or-true)
+      by-end false = simp or-false
+
+seen-form : (c : VsockConnection) (readable : Bool) → seenOf c readable ≡ noted c (c .«tx_buf») (c .«fwd_cnt») (c .state) false readable false
+unfolding seenOf withState
+seen-form c readable = refl
+
+module _ (i : NotifyIn) where
+  abbrev ring : TxBuf
+  ring = i .conn .«tx_buf»
+
+  abbrev total : ℕ
+  total = countedNow ring (i .answers)
+
+  due-now : due i ≡ flushesNow i
+  unfolding quiet
+  due-now = ap (λ (b : Bool). i .writable && b) (sym (held-some (usedOf ring)))
+
+  -- a first write that stops takes nothing
+  stopped-row : FirstInTurn (flushRows (flushIn i)) 10 → (0 < usedOf ring) × (stops (i .answers .first) ≡ true)
+  stopped-row r = at (r .0) (r .1) (r .2)
+    where
+      at : (k : ℕ) → rowAt (flushRows (flushIn i)) k .0 ≡ 10 → rowAt (flushRows (flushIn i)) k .1 → (0 < usedOf ring) × (stops (i .answers .first) ≡ true)
+      at zero e f = absurd (omega arith)
+      at (suc zero) e f = absurd (omega arith)
+      at (suc (suc zero)) e f = absurd (omega arith)
+      at (suc (suc (suc zero))) e f = f
+      at (suc (suc (suc (suc k)))) e f = absurd (omega arith)
+
+  stopped-none : soundOf ring (length (i .store)) ≡ true → flushed i .answer .number ≡ 10 → total ≡ 0
+  stopped-none s n =
+      let f = stopped-row (flush-answers (flushIn i) (flushed i) refl .exactly 10 .0 n) in
+      let c : counted (i .answers .first) ≡ 0 = stops-none (i .answers .first) (f .1) in
+      let m : ring .tail % ring .size < ring .size = mod-lt (ring .tail) (omega (arith, sound-says ring (length (i .store)) s .least)) in
+      let u : usesSecond ring (i .answers) ≡ false = ap (λ (b : Bool). b && ltb 0 (secondLength ring)) (ne-eqb (counted (i .answers .first)) (firstLength ring) (λ e. omega (arith, f .0))) in
+      sum-none (usesFirst ring) _ _ _ c u
+    where
+      stops-none : (a : StreamAnswer) → stops a ≡ true → counted a ≡ 0
+      stops-none (Count k) e = absurd (never e)
+      stops-none WouldBlock e = refl
+      stops-none Failed e = refl
+
+  -- what a flush that the event absorbs leaves: it is done, or its first write stopped and nothing was taken
+  record Flushed : Type 0 where
+    count : flushed i .count ≡ total
+    ring-left : flushed i .ring ≡ takenOff ring total
+
+  flush-left : Numbers (i .conn) → soundOf ring (length (i .store)) ≡ true → absorbed (flushAnswer (flushIn i)) ≡ Done → Flushed
+  unfolding flushOf flushDone flushKept absorbed
+  flush-left w s a =
+      ⊎-elim
+      (λ (t : isDone (flushAnswer (flushIn i)) ≡ true).
+      let z : flushed i ≡ flushDone (flushIn i) = when-done _ _ _ (is-done _ t) in
+      record {
+        count = ap (λ (o : FlushLeft). o .count) z ∙ count-is (flushIn i);
+        ring-left = ap (λ (o : FlushLeft). o .ring) z ∙ ap (takenOff ring) (count-is (flushIn i));
+      })
+      (λ (t : isDone (flushAnswer (flushIn i)) ≡ false).
+      let z : flushed i ≡ flushKept (flushIn i) = when-not-done _ _ _ t in
+      let n : told (flushAnswer (flushIn i)) .number ≡ 10 =
+      ⊎-elim
+      (λ (e : eqb (told (flushAnswer (flushIn i)) .number) 10 ≡ true). eqb-true _ 10 e)
+      (λ (e : eqb (told (flushAnswer (flushIn i)) .number) 10 ≡ false). absurd (never (sym t ∙ ap isDone (sym (when-false _ _ _ e) ∙ a) ∙ done-is-done)))
+      (true-or-false (eqb (told (flushAnswer (flushIn i)) .number) 10)) in
+      let none : total ≡ 0 = stopped-none s (ap (λ (o : FlushLeft). o .answer .number) z ∙ n) in
+      record {
+        count = ap (λ (o : FlushLeft). o .count) z ∙ sym none;
+        ring-left = ap (λ (o : FlushLeft). o .ring) z ∙ rw none (let k = w .ring .tail in let q : wadd (ring .tail) 0 ≡ ring .tail = omega arith in rw q);
+      })
+      (true-or-false (isDone (flushAnswer (flushIn i))))
+
+  module _ (w : Numbers (i .conn)) (d : notifyAnswer i ≡ Done) where
+    sound : soundOf ring (length (i .store)) ≡ true
+    unfolding notifyAnswer notifyDoor
+    sound = sound-over-ring (i .conn) (length (i .store)) (record-passed _ _ refl (lowest-passed _ _ d .0))
+
+    module _ (f : flushesNow i ≡ true) where
+      left : Flushed
+      unfolding notifyAnswer
+      left = flush-left w sound (sym (when-true _ _ (due i) (due-now ∙ f)) ∙ lowest-passed _ _ d .1)
+
+      abbrev count : ℕ
+      count = wadd (i .conn .«fwd_cnt») total
+
+      -- the record after a flush
+      conn-left : notifyDone i .conn ≡ drainedOf (seenOf (i .conn) (i .readable)) (takenOff ring total) total (eqb (usedOf (takenOff ring total)) 0) (failed (i .answers .first))
+      unfolding notifyDone quiet
+      conn-left =
+          when-true _ _ (due i) (due-now ∙ f)
+          ∙ rw (left .ring-left, left .count)
+
+      out-left : notifyDone i .out ≡ take total (held ring (i .store)) ++ drop total (i .out)
+      unfolding notifyDone
+      out-left =
+          when-true _ _ (due i) (due-now ∙ f) ∙ flush-takes-oldest (flushIn i) (flushed i) (w .ring) refl .front
+          ∙ ap (λ (k : ℕ). take k (held ring (i .store)) ++ drop k (i .out)) (left .count)
+
+    -- what it leaves, by the form of its record
+    abbrev ends : ConnState → TxBuf → Bool
+    ends s r = flushesNow i && (shutBoth s && eqb (usedOf r) 0)
+
+    by-form : (o : NotifyLeft) (r : TxBuf) (n : ℕ) (s : ConnState) (rst update : Bool) → o .conn ≡ noted (i .conn) r n s rst (i .readable) update
+        → s ≡ when (flushFails i) Killed (i .conn .state) → rst ≡ flushFails i || ends s r → update ≡ flushesNow i && (not (ends s r) && shortOf (i .conn) r n)
+        → r ≡ when (flushesNow i) (takenOff ring total) ring → n ≡ when (flushesNow i) (wadd (i .conn .«fwd_cnt») total) (i .conn .«fwd_cnt»)
+        → o .out ≡ when (flushesNow i) (take total (held ring (i .store)) ++ drop total (i .out)) (i .out) → NotifyLeaves i o
+    by-form o r n s rst update z e g h j k x =
+        let at : flushEnds i (o .conn) ≡ ends s r = ap (flushEnds i) z in
+        let short : fallsShort (o .conn) ≡ shortOf (i .conn) r n = ap fallsShort z in
+        record {
+          self = record {
+            settings = ap (λ (c : VsockConnection). c .settings) z;
+            cids = (ap (λ (c : VsockConnection). c .«local_cid») z, ap (λ (c : VsockConnection). c .«peer_cid») z);
+            ports = (ap (λ (c : VsockConnection). c .«local_port») z, ap (λ (c : VsockConnection). c .«peer_port») z);
+          };
+          peer = (ap (λ (c : VsockConnection). c .«peer_buf_alloc») z, ap (λ (c : VsockConnection). c .«peer_fwd_cnt») z);
+          state = ap (λ (c : VsockConnection). c .state) z ∙ e;
+          request = ap (λ (c : VsockConnection). c .«pending_rx» .request) z;
+          response = ap (λ (c : VsockConnection). c .«pending_rx» .response) z;
+          rw = ap (λ (c : VsockConnection). c .«pending_rx» .rw) z;
+          rst = ap (λ (c : VsockConnection). c .«pending_rx» .rst) z ∙ ap (λ (b : Bool). i .conn .«pending_rx» .rst || b) (g ∙ ap (λ (b : Bool). flushFails i || b) (sym at));
+          update =
+              ap (λ (c : VsockConnection). c .«pending_rx» .«credit_update») z
+              ∙ ap (λ (b : Bool). i .conn .«pending_rx» .«credit_update» || b)
+              (h ∙ ap (λ (b : Bool). flushesNow i && (not b && shortOf (i .conn) r n)) (sym at) ∙ ap (λ (b : Bool). flushesNow i && (not (flushEnds i (o .conn)) && b)) (sym short));
+          ring = ap (λ (c : VsockConnection). c .«tx_buf») z ∙ j;
+          count = ap (λ (c : VsockConnection). c .«fwd_cnt») z ∙ k;
+          sent = ap (λ (c : VsockConnection). c .«rx_cnt») z;
+          out = x;
+        }
+
+    -- an event that makes no flush
+    idle-conn : flushesNow i ≡ false → notifyDone i .conn ≡ noted (i .conn) ring (i .conn .«fwd_cnt») (i .conn .state) false (i .readable) false
+    unfolding notifyDone
+    idle-conn f = when-false _ _ (due i) (due-now ∙ f) ∙ seen-form (i .conn) (i .readable)
+
+    idle-out : flushesNow i ≡ false → notifyDone i .out ≡ i .out
+    unfolding notifyDone
+    idle-out f = when-false _ _ (due i) (due-now ∙ f)
+
+    event-leaves : NotifyLeaves i (notifyDone i)
+    event-leaves =
+        ⊎-elim
+        (λ (f : flushesNow i ≡ true).
+        ⊎-elim
+        (λ (b : failed (i .answers .first) ≡ true).
+        by-form (notifyDone i) (takenOff ring total) (count f) Killed true (shortOf (i .conn) (takenOff ring total) (count f))
+        (conn-left f ∙ rw b (drained-dead (i .conn) (i .readable) (takenOff ring total) total _)) (rw (f, b) (sym (when-true _ _ true refl))) (rw (f, b)) (rw f) (sym (when-true _ _ _ f)) (sym (when-true _ _ _ f))
+        (out-left f ∙ sym (when-true _ _ _ f)))
+        (λ (b : failed (i .answers .first) ≡ false).
+        let e : Bool = eqb (usedOf (takenOff ring total)) 0 in
+        let t = every-state-means (i .conn .state) .both in
+        by-form (notifyDone i) (takenOff ring total) (count f) (i .conn .state) (bothOff (i .conn .state) && e) (not (bothOff (i .conn .state) && e) && shortOf (i .conn) (takenOff ring total) (count f))
+        (conn-left f ∙ rw b (drained-alive (i .conn) (i .readable) (takenOff ring total) total e)) (rw (f, b) (sym (when-false _ _ false refl)))
+        (rw (f, b) (ap (λ (x : Bool). x && e) t)) (rw f (ap (λ (x : Bool). not (x && e) && shortOf (i .conn) (takenOff ring total) (count f)) t)) (sym (when-true _ _ _ f)) (sym (when-true _ _ _ f))
+        (out-left f ∙ sym (when-true _ _ _ f)))
+        (true-or-false (failed (i .answers .first))))
+        (λ (f : flushesNow i ≡ false).
+        by-form (notifyDone i) ring (i .conn .«fwd_cnt») (i .conn .state) false false (idle-conn f) (rw f (sym (when-false _ _ false refl))) (rw f) (rw f) (sym (when-false _ _ _ f)) (sym (when-false _ _ _ f))
+        (idle-out f ∙ sym (when-false _ _ _ f)))
+        (true-or-false (flushesNow i))
+
+pub every-notify-leaves : EveryNotifyLeaves
+unfolding notifyOf notifyKept
+every-notify-leaves i o w says n =
+    let z : o ≡ notifyDone i = left-done (λ (x : NotifyLeft). x .answer) (notifyAnswer i) (notifyDone i) (notifyKept i) o refl says n in
+    let d : notifyAnswer i ≡ Done = number-zero (notifyAnswer i) (ap (λ (t : Told). t .number) (sym (notify-told i)) ∙ ap (λ (x : NotifyLeft). x .answer .number) (sym says) ∙ n) in
+    subst (NotifyLeaves i) (sym z) (event-leaves i w d)
+
+-- ---- timers, and what the guest was told
+
+-- what every record from here on keeps of another
+abbrev Keeps : VsockConnection → VsockConnection → Type 0
+Keeps c d = (d .expiry ≡ c .expiry) × (d .«last_fwd_cnt_to_peer» ≡ c .«last_fwd_cnt_to_peer»)
+
+flush-keeps : (c : VsockConnection) (readable : Bool) (ring : TxBuf) (n : ℕ) (empty fails : Bool) → Keeps c (drainedOf (seenOf c readable) ring n empty fails)
+unfolding drainedOf settledOf killedOf updatedOf movedOf seenOf withState
+flush-keeps c readable ring n empty fails =
+    let m = movedOf (seenOf c readable) ring n in
+    let x = when fails (killedOf m) m in
+    let k : Keeps c x = when-holds (Keeps c) fails _ _ (λ t. (refl, refl)) (λ t. (refl, refl)) in
+    when-holds (Keeps c) (bothOff (x .state) && empty) _ _ (λ t. k) (λ t. k)
+
+event-keeps : (i : NotifyIn) (o : NotifyLeft) → o ≡ notifyOf i → Keeps (i .conn) (o .conn)
+unfolding notifyOf notifyDone notifyKept seenOf withState
+event-keeps i o says =
+    rw says
+    (when-done-holds (λ (x : NotifyLeft). Keeps (i .conn) (x .conn)) (notifyAnswer i) (notifyDone i) (notifyKept i)
+    (when-holds (Keeps (i .conn)) (due i) _ _ (λ t. flush-keeps (i .conn) (i .readable) _ _ _ _) (λ t. (refl, refl))) (refl, refl))
+
+kill-keeps : (c : VsockConnection) (o : ConnLeft) → o ≡ killOf c → Keeps c (o .conn)
+unfolding killOf killedOf withState
+kill-keeps c o says = rw says (when-done-holds (Keeps c) (lookAnswer c) (killedOf c) c (refl, refl) (refl, refl))
+
+send-told-stays : (i : SendIn) (o : SendLeft) → o ≡ sendOf i → o .conn .«last_fwd_cnt_to_peer» ≡ i .conn .«last_fwd_cnt_to_peer»
+unfolding sendOf sendKept
+send-told-stays i o says =
+    ⊎-elim
+    (λ (t : isDone (sendAnswer i) ≡ true).
+    let d = is-done _ t in
+    ap (λ (x : SendLeft). x .conn .«last_fwd_cnt_to_peer») (says ∙ when-done _ _ _ d) ∙ ap (λ (c : VsockConnection). c .«last_fwd_cnt_to_peer») (shape i d .is))
+    (λ (t : isDone (sendAnswer i) ≡ false). ap (λ (x : SendLeft). x .conn .«last_fwd_cnt_to_peer») (says ∙ when-not-done _ _ _ t))
+    (true-or-false (isDone (sendAnswer i)))
+
+pub timers-arm : TimersArm
+timers-arm = record {
+  send = λ i o says n.
+      let h = shape i (sent-done i o says n) in
+      ap (λ (x : SendLeft). x .conn .expiry) (done-left i o says n) ∙ ap (λ (c : VsockConnection). c .expiry) (h .is) ∙ h .timer-is;
+  notify = λ i o says. event-keeps i o says .0;
+  recv = λ i o says k. ap (λ (c : VsockConnection). c .expiry) (every-turn-leaves i o says k .conn);
+  kill = λ c o says. kill-keeps c o says .0;
+}
+
+pub last-told-moves : LastToldMoves
+last-told-moves = record {
+  send = send-told-stays;
+  notify = λ i o says. event-keeps i o says .1;
+  recv = λ i o says k. ap (λ (c : VsockConnection). c .«last_fwd_cnt_to_peer») (every-turn-leaves i o says k .conn);
+  kill = λ c o says. kill-keeps c o says .1;
+}

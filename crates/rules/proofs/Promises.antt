@@ -2,12 +2,14 @@
 use Rattle.rules.specs.Promises.{SendMoves, NotifyMoves, SendCountedOff, NotifyCountedOff, NotifyOffersPieces, ReadWithinAsked, ReceiveKeeps, KillKeeps, EdgesHold}
 use Rattle.rules.specs.Answers.{SendAnswers, RecvAnswers, NotifyAnswers, RawAnswers}
 use Rattle.rules.specs.Outcomes.{RefusalsChangeNothing, EverySendHears, EverySendAccepts, UpdateIsDue, EveryTurnLeaves, HeaderTells, SevenAndEightLeave, EveryKillKills, EveryPollPolls, ExpiryMeans}
+use Rattle.rules.specs.Leaves.{EverySendLeaves, EveryNotifyLeaves, TimersArm, LastToldMoves}
 use Rattle.rules.specs.Runs.{EveryRunForwards, CutsDoNotMatter, FlagsOnlyGrow, Drains}
 use Rattle.rules.specs.Stories.{StoriesHold}
 use Rattle.rules.proofs.Edges as edges
 use Rattle.rules.proofs.AnswerLaws as answers
 use Rattle.rules.proofs.MovesLaws as moves
 use Rattle.rules.proofs.OutcomeLaws as outcomes
+use Rattle.rules.proofs.LeavesLaws as leaves
 use Rattle.rules.proofs.RunLaws as forwarding
 use Rattle.rules.proofs.FlagLaws as flags
 use Rattle.rules.proofs.DrainLaws as draining
@@ -79,6 +81,18 @@ every-poll-polls = outcomes.every-poll-polls
 
 pub expiry-means : ExpiryMeans
 expiry-means = outcomes.expiry-means
+
+pub every-send-leaves : EverySendLeaves
+every-send-leaves = leaves.every-send-leaves
+
+pub every-notify-leaves : EveryNotifyLeaves
+every-notify-leaves = leaves.every-notify-leaves
+
+pub timers-arm : TimersArm
+timers-arm = leaves.timers-arm
+
+pub last-told-moves : LastToldMoves
+last-told-moves = leaves.last-told-moves
 
 pub every-run-forwards : EveryRunForwards
 every-run-forwards = forwarding.every-run-forwards

@@ -27,6 +27,7 @@ use Rattle.rules.specs.Look.{KillSays}
 use Rattle.rules.specs.Receive.{RecvIn, RecvLeft, RecvSays}
 use Rattle.rules.specs.Send.{SendIn, SendLeft, SendSays}
 use Rattle.rules.specs.Notify.{NotifyIn, NotifyLeft, NotifySays}
+use Rattle.rules.specs.Moves.{Numbers}
 use Rattle.rules.specs.Outcomes.{meetsData, takenNow, killsNow, fallsShort, turnOf}
 use Rattle.rules.specs.declared.record.VsockConnection.{VsockConnection}
 
@@ -153,7 +154,7 @@ pub record NotifyLeaves (i : NotifyIn) (o : NotifyLeft) : Type 0 where
       (i .out)
 
 abbrev pub EveryNotifyLeaves : Type 0
-EveryNotifyLeaves = (i : NotifyIn) (o : NotifyLeft) → NotifySays i o → o .answer .number ≡ 0 → NotifyLeaves i o
+EveryNotifyLeaves = (i : NotifyIn) (o : NotifyLeft) → Numbers (i .conn) → NotifySays i o → o .answer .number ≡ 0 → NotifyLeaves i o
 
 -- ---- timers, and what the guest was told
 
