@@ -208,6 +208,10 @@ pub not-over : (i : FlushIn) → flushAnswer i ≡ Done → flushOver i ≡ fals
 unfolding flushAnswer
 not-over i d = late-passed _ _ (lowest-passed _ _ (lowest-passed _ _ d .0) .1) .answer-ok
 
+pub room-left : (i : FlushIn) → flushAnswer i ≡ Done → flushCount i ≤ length (i .out)
+unfolding flushAnswer
+room-left i d = ltb-false _ _ (late-passed _ _ (lowest-passed _ _ (lowest-passed _ _ d .0) .1) .room-ok)
+
 -- ---- new, len and is_empty
 
 pub new-answers : NewAnswers

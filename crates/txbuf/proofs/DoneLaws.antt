@@ -1,11 +1,12 @@
 -- What a call on a ring that is done leaves, by 01's words over what it was given. Assumes nothing.
-use Prim.Native.Nat.{ℕ, _≤_, _+_, zero-le}
+use Prim.Native.Nat.{ℕ, _+_, _%_, _<_, _≤_, zero-le}
 use mathlib.Core.Path.{_≡_, refl, sym, ap, subst, _∙_}
 use mathlib.Core.Bool.{Bool, true, false, _&&_}
-use mathlib.Core.List.{List}
+use mathlib.Core.List.{List, _++_}
 use native.Mathlib.Omega.{arith}
 use lib.Dec.{ltb, eqb}
-use lib.ListN.{length, getD}
+use lib.ListN.{length, getD, take, drop, length-append, length-drop, List·getD-append}
+use lib.Seq.{getD-take, drop-at, length-take-le}
 use borrow.Author.Tests.{ltb-false, le-ltb}
 use Rattle.defs.specs.Choice.{when}
 use Rattle.defs.specs.Answer.{Told, isDone, whenDone}
@@ -27,9 +28,9 @@ use Rattle.txbuf.specs.Flush.{FlushIn, FlushLeft, endsBy, flushAnswer, f
 use Rattle.txbuf.specs.Means.{bytesHeld, Sound, SoundOver, firstLength, secondLength, usesFirst, usesSecond, countedNow}
 use Rattle.txbuf.specs.Outcomes.{SoundStaysSound, NewIsEmpty, EveryPushMeans, FlushMeans, EveryFlushMeans, withAnswers, UnreachedIsIgnored, LooksMean}
 use Rattle.txbuf.specs.declared.record.TxBuf.{TxBuf}
-use Rattle.txbuf.proofs.RecordLaws.{sound-means, is-sound, used-after, used-advanced}
-use Rattle.txbuf.proofs.AnswerLaws.{push-told, Ready, ready, tooMuch, count-is, over-is, flush-told, sound-done, not-over}
-use Rattle.txbuf.proofs.RingLaws.{runs-written, written-length, written-other}
+use Rattle.txbuf.proofs.RecordLaws.{sound-means, is-sound, held-length, used-after, used-advanced}
+use Rattle.txbuf.proofs.AnswerLaws.{push-told, Ready, ready, tooMuch, count-is, over-is, flush-told, sound-done, not-over, room-left}
+use Rattle.txbuf.proofs.RingLaws.{runs-written, written-length, written-other, written-at, held-at}
 
 -- ---- push
 
@@ -75,6 +76,11 @@ every-push-means i o wide says n = record {
   size = size-is i o wide says n;
   tail = tail-is i o wide says n;
   held = held-is i o wide says n;
+  bytes = λ k l.
+      let r = fit i o wide says n in
+      let s = sound i o wide says n in
+      ap (λ (x : List ℕ). getD x ((i .ring .head + k) % i .ring .size) 0) (store-is i o wide says n)
+      ∙ written-at (i .ring .size) (i .src) (i .store) (i .ring .head) k (s .1) (omega (arith, s .1, r .room)) l;
   others = λ place f. ap (λ (x : List ℕ). getD x place 0) (store-is i o wide says n) ∙ written-other (i .ring .size) (i .src) (i .store) (i .ring .head) place f;
 }
 
@@ -107,6 +113,20 @@ module _ (i : FlushIn) (o : FlushLeft) (wide : Wide (i .ring)) (says : o ≡ flu
   count-now : flushCount i ≤ bytesHeld (i .ring)
   count-now = rw (count-is i) (counted-within (i .ring) (i .answers) (sym (over-is i was-sound) ∙ not-over i flushed))
 
+  -- the oldest bytes, as many as are taken
+  abbrev taken : List ℕ
+  taken = take (flushCount i) (held (i .ring) (i .store))
+
+  taken-length : length taken ≡ flushCount i
+  taken-length = length-take-le (flushCount i) (held (i .ring) (i .store)) (rw (held-length (i .ring) (i .store)) count-now)
+
+  taken-at : (k : ℕ) → k < flushCount i → getD (taken ++ drop (flushCount i) (i .out)) k 0 ≡ getD (i .store) ((i .ring .tail + k) % i .ring .size) 0
+  unfolding held
+  taken-at k l =
+      let m = count-now in
+      List·getD-append taken (drop (flushCount i) (i .out)) 0 k (rw taken-length l) ∙ getD-take (flushCount i) (held (i .ring) (i .store)) k 0 l
+      ∙ held-at (i .ring .size) (usedOf (i .ring)) (i .store) (i .ring .tail) k (omega arith)
+
   pub flush-means : FlushMeans i o
   unfolding flushDone
   flush-means =
@@ -116,6 +136,11 @@ module _ (i : FlushIn) (o : FlushLeft) (wide : Wide (i .ring)) (says : o ≡ flu
         head = refl;
         count = count-is i;
         held = let l = count-now in let u = used-advanced (i .ring .head) (i .ring .tail) (flushCount i) (wide .head) (wide .tail) l in omega arith;
+        bytes = taken-at;
+        length =
+            length-append taken (drop (flushCount i) (i .out))
+            ∙ (let t = taken-length in let d = length-drop (flushCount i) (i .out) in let r = room-left i flushed in omega arith);
+        others = drop-at taken (drop (flushCount i) (i .out)) (flushCount i) taken-length;
       })
 
 pub every-flush-means : EveryFlushMeans

@@ -3,7 +3,7 @@ use mathlib.Core.Path.{_≡_, refl, sym, ap, _∙_, subst}
 use mathlib.Core.List.{List, [], _∷_, _++_, append-assoc, append-nil}
 use mathlib.Core.Logic.{⊎-elim}
 use Prim.Native.Nat.{ℕ, zero, suc, _+_, _-_, _<_, _≤_, _%_}
-use native.Mathlib.Nat.{suc-mod, mod-lt, mod-eq-of-lt, mod-add-mod, mod-eq-sub-mod, mod-self, zero-add, add-zero, add-suc, suc-add, sub-zero, suc-sub-suc}
+use native.Mathlib.Nat.{suc-mod, mod-lt, mod-eq-of-lt, mod-add-mod, mod-eq-sub-mod, mod-self, zero-add, add-zero, add-suc, suc-add, sub-zero, suc-sub-suc, not-suc-le-zero}
 use native.Mathlib.Omega.{arith}
 use lib.ListN.{length, take, drop, getD, set, length-set, length-append, length-drop, take-append-drop, drop-of-length-le}
 use lib.Seq.{drop-cons, append-snoc, getD-set-same, getD-set-other, sets, sets-eq, drop-drop, length-take-le}
@@ -180,3 +180,26 @@ written-other R (x ∷ xs) st h place n =
     written-other R xs (set st (h % R) x) (suc h) place
     (λ (k : ℕ) l e. n (suc k) (omega arith) (ap (λ (y : ℕ). y % R) (let z : h + suc k ≡ suc h + k = omega arith in z) ∙ e))
     ∙ getD-set-other st (h % R) place x 0 (λ (e : place ≡ h % R). n 0 (omega arith) (ap (λ (y : ℕ). y % R) (add-zero h) ∙ sym e))
+
+-- and each byte stands at its place
+pub written-at : (R : ℕ) (src st : List ℕ) (h k : ℕ) → length st ≡ R → length src ≤ R → k < length src
+    → getD (written st R h src) ((h + k) % R) 0 ≡ getD src k 0
+unfolding written
+written-at R [] st h k e l m = absurd (not-suc-le-zero m)
+written-at R (x ∷ xs) st h zero e l m =
+    let i : h % R < length st = subst (λ (n : ℕ). h % R < n) (sym e) (mod-lt h (omega arith)) in
+    ap (λ (n : ℕ). getD (written (set st (h % R) x) R (suc h) xs) (n % R) 0) (add-zero h)
+    ∙ written-other R xs (set st (h % R) x) (suc h) (h % R)
+    (λ (j : ℕ) b c. apart R h (suc j) (omega arith) (omega arith) (sym c ∙ ap (λ (n : ℕ). n % R) (let z : suc h + j ≡ h + suc j = omega arith in z)))
+    ∙ getD-set-same st (h % R) x 0 i
+written-at R (x ∷ xs) st h (suc k) e l m =
+    ap (λ (n : ℕ). getD (written (set st (h % R) x) R (suc h) xs) (n % R) 0) (let z : h + suc k ≡ suc h + k = omega arith in z)
+    ∙ written-at R xs (set st (h % R) x) (suc h) k (length-set st (h % R) x ∙ e) (omega arith) (omega arith)
+
+-- each byte that is held is read at its place
+pub held-at : (R n : ℕ) (st : List ℕ) (t k : ℕ) → k < n → getD (heldFrom st R t n) k 0 ≡ getD st ((t + k) % R) 0
+unfolding heldFrom
+held-at R zero st t k l = absurd (not-suc-le-zero l)
+held-at R (suc n) st t zero l = ap (λ (i : ℕ). getD st (i % R) 0) (sym (add-zero t))
+held-at R (suc n) st t (suc k) l =
+    held-at R n st (suc t) k (omega arith) ∙ ap (λ (i : ℕ). getD st (i % R) 0) (let z : suc t + k ≡ t + suc k = omega arith in z)

@@ -3,7 +3,7 @@
 use Prim.Native.Nat.{ℕ, _+_, _%_, _<_}
 use mathlib.Core.Path.{_≡_}
 use mathlib.Core.Bool.{true, false}
-use lib.ListN.{length, getD}
+use lib.ListN.{length, getD, drop}
 use Rattle.defs.specs.Look.{LenLeft, LenSays, FlagLeft, FlagSays}
 use Rattle.defs.specs.Promises.{Exactly, Refuses}
 use Rattle.defs.specs.Stream.{failed}
@@ -23,7 +23,7 @@ pub record RefusalsChangeNothing : Type 0 where
   pub flush : (i : FlushIn) (o : FlushLeft) → FlushSays i o → Refuses (o .answer) → (o .ring ≡ i .ring) × (o .out ≡ i .out) × (o .count ≡ 0)
   pub new : (size : ℕ) (o : NewLeft) → NewSays size o → Refuses (o .answer) → o .ring ≡ record { size = 0; head = 0; tail = 0 }
 
--- nor do 9, under either name of `push`, and 10, which tells whether the first write failed
+-- nor do 9 (and whatever `push` under its C name answers but 0) and 10, which tells whether the first write failed
 pub record NineAndTenChangeNothing : Type 0 where
   pub push : (i : PushIn) (o : PushLeft) → PushSays i o → o .answer .number ≡ 9 → (o .ring ≡ i .ring) × (o .store ≡ i .store)
   pub numbered : (i : PushIn) (o : NumberedLeft) → NumberedSays i o → (o .number ≡ 0 → ⊥) → o .store ≡ i .store
@@ -42,22 +42,27 @@ pub record SoundStaysSound : Type 0 where
 abbrev pub NewIsEmpty : Type 0
 NewIsEmpty = (size : ℕ) (o : NewLeft) → NewSays size o → o .answer .number ≡ 0 → (o .ring .size ≡ size) × (bytesHeld (o .ring) ≡ 0)
 
--- a push adds so many bytes behind those that are held, and leaves every place of the storage that it does not write (which bytes: `PushAppends`)
+-- a push writes its bytes from the head offset on, modulo R, leaves every other place of the storage, and so many more are held
 pub record PushMeans (i : PushIn) (o : PushLeft) : Type 0 where
   pub size : o .ring .size ≡ i .ring .size
   pub tail : o .ring .tail ≡ i .ring .tail
   pub held : bytesHeld (o .ring) ≡ bytesHeld (i .ring) + length (i .src)
+  pub bytes : (k : ℕ) → k < length (i .src) → getD (o .store) ((i .ring .head + k) % i .ring .size) 0 ≡ getD (i .src) k 0
   pub others : (place : ℕ) → ((k : ℕ) → k < length (i .src) → (i .ring .head + k) % i .ring .size ≡ place → ⊥) → getD (o .store) place 0 ≡ getD (i .store) place 0
 
 abbrev pub EveryPushMeans : Type 0
 EveryPushMeans = (i : PushIn) (o : PushLeft) → Wide (i .ring) → PushSays i o → o .answer .number ≡ 0 → PushMeans i o
 
--- a flush takes the bytes that the used answers count, and so many fewer are held (which bytes: `FlushTakesOldest`)
+-- a flush takes the bytes that the used answers count from the tail offset on, modulo R, to the front of the outgoing buffer, the rest of which stays,
+-- and so many fewer are held
 pub record FlushMeans (i : FlushIn) (o : FlushLeft) : Type 0 where
   pub size : o .ring .size ≡ i .ring .size
   pub head : o .ring .head ≡ i .ring .head
   pub count : o .count ≡ countedNow (i .ring) (i .answers)
   pub held : bytesHeld (o .ring) + o .count ≡ bytesHeld (i .ring)
+  pub bytes : (k : ℕ) → k < o .count → getD (o .out) k 0 ≡ getD (i .store) ((i .ring .tail + k) % i .ring .size) 0
+  pub length : length (o .out) ≡ length (i .out)
+  pub others : drop (o .count) (o .out) ≡ drop (o .count) (i .out)
 
 abbrev pub EveryFlushMeans : Type 0
 EveryFlushMeans = (i : FlushIn) (o : FlushLeft) → Wide (i .ring) → FlushSays i o → o .answer .number ≡ 0 → FlushMeans i o
