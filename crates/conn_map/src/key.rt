@@ -9,7 +9,7 @@ pub struct ConnMapKey {
 
 // A slot's ports are one number, so that one comparison tells two slots apart: the local port
 // times this, and the peer port.
-const PORT_SPAN: u64 = 4294967296;
+pub const PORT_SPAN: u64 = 4294967296;
 
 pub fn key_of(ports: u64) -> ConnMapKey
     ensures { λ r. ⌜ r ≡ keyOf ports ⌝ }

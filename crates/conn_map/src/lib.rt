@@ -6,5 +6,6 @@ mod sort;
 mod table;
 
 pub use key::ConnMapKey;
+pub use key::PORT_SPAN;
 pub use key::key_of;
 pub use table::is_sound;

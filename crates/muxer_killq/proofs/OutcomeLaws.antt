@@ -1,7 +1,7 @@
 -- What is said a second time in specs/Outcomes follows from the statements of the calls. Assumes nothing.
-use Prim.Native.Nat.{ℕ, _+_, _≤_, _<_, _^_}
-use mathlib.Core.Path.{_≡_, refl, ap, sym, subst, _∙_}
-use mathlib.Core.Bool.{Bool, true, false, _&&_}
+use Prim.Native.Nat.{ℕ, _^_, _≤_, _<_}
+use mathlib.Core.Path.{_≡_, ap, sym, subst, _∙_}
+use mathlib.Core.Bool.{Bool, true, _&&_}
 use mathlib.Core.List.{List}
 use native.Mathlib.Omega.{arith}
 use borrow.Author.Tests.{leb-true, leb-false, le-leb, lt-leb, ltb-true, lt-ltb, eqb-true, eq-eqb}
@@ -13,7 +13,7 @@ use Rattle.defs.specs.Limits.{maxClock, isClock}
 use Rattle.defs.specs.Ladder.{doorOf, clockAnswer}
 use Rattle.defs.specs.Promises.{Refuses}
 use Rattle.defs.specs.declared.answer.Answer.{Answer}
-use Rattle.defs.specs.declared.answer.Answer.the-variants.{Done, NotQueued}
+use Rattle.defs.specs.declared.answer.Answer.the-variants.{Done}
 use Rattle.defs.proofs.Basics.{both}
 use Rattle.defs.proofs.ChoiceLaws.{when-true, when-false, when-holds}
 use Rattle.conn_map.specs.Key.{keyOf}
@@ -27,7 +27,7 @@ use Rattle.queue.proofs.EveryLaws as every
 use Rattle.muxer_killq.specs.Item.{zeroItem, timesApart, isAlike}
 use Rattle.muxer_killq.specs.Queue.{killq, soundQ, items, pack}
 use Rattle.muxer_killq.specs.Push.{itemAt, pushList}
-use Rattle.muxer_killq.specs.Pop.{PopIn, noKey, hasPassed, keyIn, popAnswerOf}
+use Rattle.muxer_killq.specs.Pop.{noKey, hasPassed, keyIn}
 use Rattle.muxer_killq.specs.Sort.{sortByTime}
 use Rattle.muxer_killq.specs.Build.{aheadOf, builtFrom, BuildIn, buildOf}
 use Rattle.muxer_killq.specs.Promises.{Sorted}

@@ -2,7 +2,7 @@
 -- follows, so that a wrong behaviour put into both is refused here. Assumes nothing.
 use Prim.Native.Nat.{ℕ, _+_, _≤_, _<_}
 use mathlib.Core.Path.{_≡_}
-use mathlib.Core.Bool.{Bool, true, false}
+use mathlib.Core.Bool.{true, false}
 use lib.ListN.{length, getD, set}
 use Rattle.defs.specs.Promises.{Exactly}
 use Rattle.queue.specs.Queue.{Kind, soundQ}

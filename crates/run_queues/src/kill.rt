@@ -1,6 +1,6 @@
-// Calls on the kill queue, each with its line. An item is shown as its local port and its time.
-use crate::shared::answered;
+// Calls on the kill queue, each with its line. An item is shown as its local and peer port and its time.
 use crate::shared::left;
+use crate::shared::ports;
 use crate::shared::told;
 use conn_map::ConnMapKey;
 use defs::Answer;
@@ -8,16 +8,20 @@ use defs::limits::MAX_KILLQ_SIZE;
 use muxer_killq::MuxerKillQ;
 use muxer_killq::MuxerKillQItem;
 use text::named;
-use text::number;
 use text::say;
 
-fn timed(local_port: u32, time: u64) {
-    number(local_port as u64);
+fn timed(key: ConnMapKey, time: u64) {
+    say(b" ");
+    ports(key.local_port, key.peer_port);
     named(b" at", time);
 }
 
 fn item(it: MuxerKillQItem) {
-    timed(it.local_port, it.kill_time);
+    let key = ConnMapKey {
+        local_port: it.local_port,
+        peer_port: it.peer_port,
+    };
+    timed(key, it.kill_time);
 }
 
 fn end(answer: Answer, queue: MuxerKillQ) {
@@ -46,7 +50,7 @@ pub fn push(queue: MuxerKillQ, local_port: u32, kill_time: u64) -> MuxerKillQ {
         peer_port: 1,
     };
     say(b"kill push");
-    timed(local_port, kill_time);
+    timed(key, kill_time);
     let pushed = queue.push(key, kill_time);
     let answer = pushed.answer;
     let next = pushed.queue;
@@ -61,7 +65,8 @@ pub fn pop(queue: MuxerKillQ, clock: u64) -> MuxerKillQ {
     let key = popped.key;
     let next = popped.queue;
     text::yes(popped.found);
-    number(key.local_port as u64);
+    say(b" ");
+    ports(key.local_port, key.peer_port);
     end(answer, next);
     next
 }
@@ -71,14 +76,16 @@ pub fn look(queue: MuxerKillQ) {
     let empty = queue.is_empty();
     let full = queue.is_full();
     let front = queue.peek();
-    let answer = front.answer;
+    let synced_answer = synced.answer;
+    let empty_answer = empty.answer;
+    let full_answer = full.answer;
+    let front_answer = front.answer;
     let it = front.item;
-    told(b"kill look synced", synced.holds);
-    told(b" empty", empty.holds);
-    told(b" full", full.holds);
-    told(b" front", front.found);
+    told(b"kill look synced", synced.holds, synced_answer);
+    told(b" empty", empty.holds, empty_answer);
+    told(b" full", full.holds, full_answer);
+    told(b" front", front.found, front_answer);
     item(it);
-    answered(answer);
     say(b" \n");
 }
 

@@ -6,9 +6,9 @@ use crate::kill::look;
 use crate::kill::new;
 use crate::kill::pop;
 use crate::kill::push;
-use crate::shared::PORT_SPAN;
 use crate::shared::many_ports;
 use conn_map::ConnMapKey;
+use conn_map::PORT_SPAN;
 use defs::limits::MAX_CLOCK_MS;
 use defs::limits::MAX_CONNECTIONS;
 use defs::limits::MAX_KILLQ_SIZE;
@@ -92,15 +92,15 @@ pub fn unsound() {
     pop(push(long, 2, 500), 501);
 }
 
-// Equal times, one that has passed, one that is now, one that is none.
+// Equal times, one that has passed, one that is now, one that is none; the peer port is 7.
 pub fn tables() {
     let ports = [
-        PORT_SPAN,
-        2 * PORT_SPAN,
-        3 * PORT_SPAN,
-        4 * PORT_SPAN,
-        5 * PORT_SPAN,
-        PORT_SPAN,
+        PORT_SPAN + 7,
+        2 * PORT_SPAN + 7,
+        3 * PORT_SPAN + 7,
+        4 * PORT_SPAN + 7,
+        5 * PORT_SPAN + 7,
+        PORT_SPAN + 7,
     ];
     let times = [700u64, 500u64, 700u64, 600u64, 0u64, 900u64];
     let used = [1u8, 1u8, 1u8, 1u8, 1u8, 0u8];

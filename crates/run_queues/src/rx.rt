@@ -1,10 +1,10 @@
-// Calls on the RX queue, each with its line. An item is shown as r or c and its local port.
+// Calls on the RX queue, each with its line. An item is shown as r or c and its local and peer port.
 use crate::shared::answered;
 use crate::shared::left;
+use crate::shared::ports;
 use crate::shared::told;
 use defs::Answer;
 use defs::limits::MAX_RXQ_SIZE;
-use libc::STDOUT_FILENO;
 use muxer_rxq::MuxerRx;
 use muxer_rxq::MuxerRxQ;
 use text::named;
@@ -16,7 +16,7 @@ fn item(it: MuxerRx) {
     } else {
         say(b" c");
     }
-    io::print_decimal(STDOUT_FILENO, it.local_port as u64);
+    ports(it.local_port, it.peer_port);
 }
 
 fn end(answer: Answer, queue: MuxerRxQ) {
@@ -59,7 +59,8 @@ pub fn pop(queue: MuxerRxQ) -> MuxerRxQ {
     let answer = popped.answer;
     let it = popped.item;
     let next = popped.queue;
-    told(b"rx pop", popped.found);
+    say(b"rx pop");
+    text::yes(popped.found);
     item(it);
     end(answer, next);
     next
@@ -71,15 +72,19 @@ pub fn look(queue: MuxerRxQ) {
     let empty = queue.is_empty();
     let full = queue.is_full();
     let front = queue.peek();
-    let answer = len.answer;
+    let synced_answer = synced.answer;
+    let len_answer = len.answer;
+    let empty_answer = empty.answer;
+    let full_answer = full.answer;
+    let front_answer = front.answer;
     let it = front.item;
-    told(b"rx look synced", synced.holds);
+    told(b"rx look synced", synced.holds, synced_answer);
     named(b" len", len.len as u64);
-    told(b" empty", empty.holds);
-    told(b" full", full.holds);
-    told(b" front", front.found);
+    answered(len_answer);
+    told(b" empty", empty.holds, empty_answer);
+    told(b" full", full.holds, full_answer);
+    told(b" front", front.found, front_answer);
     item(it);
-    answered(answer);
     say(b" \n");
 }
 

@@ -5,8 +5,8 @@ use crate::rx::look;
 use crate::rx::new;
 use crate::rx::pop;
 use crate::rx::push;
-use crate::shared::PORT_SPAN;
 use crate::shared::many_ports;
+use conn_map::PORT_SPAN;
 use defs::limits::MAX_CONNECTIONS;
 use defs::limits::MAX_RXQ_SIZE;
 use defs::limits::MIN_RXQ_SIZE;
@@ -93,9 +93,14 @@ pub fn unsound() {
     pop(push(wide, true, 9));
 }
 
-// The local ports of the slots are 1, 2, 1 and 3; slot 2 is not used in the first table.
+// The local ports of the slots are 1, 2, 1 and 3, their peer port 7; slot 2 is not used in the first table.
 pub fn tables() {
-    let ports = [PORT_SPAN, 2 * PORT_SPAN, PORT_SPAN, 3 * PORT_SPAN];
+    let ports = [
+        PORT_SPAN + 7,
+        2 * PORT_SPAN + 7,
+        PORT_SPAN + 7,
+        3 * PORT_SPAN + 7,
+    ];
     let used = [1u8, 1u8, 0u8, 1u8];
     let every = [1u8; 4];
     let all = [1u8; 4];

@@ -1,11 +1,10 @@
 // What the lines and the tables of both queues share.
+use conn_map::PORT_SPAN;
 use defs::Answer;
 use defs::limits::MAX_CONNECTIONS;
+use libc::STDOUT_FILENO;
 use text::named;
 use text::say;
-
-// A slot's ports are the local port times this, and the peer port (conn_map, src/key.rt).
-pub const PORT_SPAN: u64 = 4294967296;
 
 pub fn answered(answer: Answer) {
     named(b" :", defs::number_of(answer) as u64);
@@ -23,10 +22,18 @@ pub fn left(answer: Answer, len: usize, limit: usize, synced: bool) {
     }
 }
 
-// A look's word, and whether it holds.
-pub fn told(word: &[u8], holds: bool) {
+// A look's word, whether it holds, and the look's answer.
+pub fn told(word: &[u8], holds: bool, answer: Answer) {
     say(word);
     text::yes(holds);
+    answered(answer);
+}
+
+// A local and a peer port.
+pub fn ports(local_port: u32, peer_port: u32) {
+    io::print_decimal(STDOUT_FILENO, local_port as u64);
+    say(b"/");
+    io::print_decimal(STDOUT_FILENO, peer_port as u64);
 }
 
 // As many slots as a table has at most: slot i has local port i.
