@@ -6,14 +6,14 @@ use mathlib.Core.List.{List, [], _∷_, _++_, map}
 use mathlib.Core.Logic.{⊎-elim}
 use lib.Dec.{ltb}
 use lib.ListN.{length, getD, take, length-append}
-use lib.Seq.{take-all, take-append-le, getD-at, getD-take, take-at}
+use lib.Seq.{length-take-le, take-all, take-append-le, getD-at, getD-take, take-at}
 use borrow.Author.Tests.{lt-ltb, le-ltb}
 use native.Mathlib.Omega.{arith}
 use Rattle.defs.specs.Choice.{when}
 use Rattle.defs.proofs.Basics.{lt-or-ge, true-or-false}
 use Rattle.defs.proofs.ChoiceLaws.{when-true, when-false}
 use Rattle.conn_map.specs.Table.{Slot, slotAt, slotsFrom, slotsOf, chosen, gathered}
-use Rattle.conn_map.specs.Order.{countBelow, amongFirst, InSlotOrder}
+use Rattle.conn_map.specs.Order.{countBelow, amongFirst, SmallerOf, InSlotOrder}
 use Rattle.conn_map.specs.Promises.{GatheredInOrder}
 
 -- one item more at the end, where a test holds
@@ -109,6 +109,10 @@ module _ {A : Type 0} (passes : ℕ → Bool) (give : ℕ → A) where
           by : (b : Bool) → b && ltb (countBelow passes n) most ≡ false
           by true = f
           by false = refl
+
+-- the first of a list are as many as asked for, or all
+pub take-smaller : {A : Type 0} (most : ℕ) (l : List A) (n : ℕ) → length l ≡ n → SmallerOf (length (take most l)) most n
+take-smaller most l n e = (λ h. length-take-le most l (omega (arith, e)), λ h. ap length (take-all most l (omega (arith, e))) ∙ e)
 
 -- ---- of a list, those that pass
 

@@ -18,8 +18,8 @@ use Rattle.defs.proofs.Basics.{both}
 use Rattle.defs.proofs.ChoiceLaws.{when-true, when-false, when-holds}
 use Rattle.conn_map.specs.Key.{keyOf}
 use Rattle.conn_map.specs.Table.{usedAt, slotsOf, chosen}
-use Rattle.conn_map.specs.Order.{countBelow, amongFirst}
-use Rattle.conn_map.proofs.OrderLaws.{listed, listed-length, listed-in-order, listed-first, listed-chosen, gathered-listed, by-list}
+use Rattle.conn_map.specs.Order.{countBelow, amongFirst, SmallerOf}
+use Rattle.conn_map.proofs.OrderLaws.{listed, listed-length, listed-in-order, listed-first, take-smaller, listed-chosen, gathered-listed, by-list}
 use Rattle.queue.specs.Queued.{ListLeft, hasRoom, newOf}
 use Rattle.queue.specs.Pop.{popOf}
 use Rattle.queue.proofs.QueueLaws.{queue-is-its-list}
@@ -97,7 +97,10 @@ module _ (i : BuildIn) where
             by-list
             (sym (ap (chosen timed) l ∙ s .stable time ∙ listed-chosen (amongFirst (i .limit) (aheadAt i)) (killAt i) timed slots))
             (listed-in-order (λ (n : ℕ). amongFirst (i .limit) (aheadAt i) n && eqb (getD (i .times) n 0) time) (killAt i) zeroItem slots);
-        no-more = ap length l ∙ sort-length first ∙ listed-length (amongFirst (i .limit) (aheadAt i)) (killAt i) slots;
+        len =
+            subst (λ (m : ℕ). SmallerOf m (i .limit) (countBelow (aheadAt i) slots))
+            (sym (ap (λ (q : MuxerKillQ). q .len) e ∙ sort-length first ∙ ap length (sym (listed-first (aheadAt i) (killAt i) (i .limit) slots))))
+            (take-smaller (i .limit) ahead (countBelow (aheadAt i) slots) n);
         limit = ap (λ (q : MuxerKillQ). q .limit) e;
         unsynced = (
           λ u. (let h = leb-false (length ahead) (i .limit) (sym (ap (λ (q : MuxerKillQ). q .synced) e) ∙ u) in omega (arith, n)),

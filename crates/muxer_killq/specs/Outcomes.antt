@@ -7,31 +7,41 @@ use lib.Dec.{ltb, eqb}
 use lib.ListN.{length, getD}
 use Rattle.defs.specs.Promises.{Exactly, Refuses}
 use Rattle.conn_map.specs.Table.{chosen}
-use Rattle.conn_map.specs.Order.{countBelow, amongFirst, InSlotOrder}
+use Rattle.conn_map.specs.Order.{countBelow, amongFirst, SmallerOf, InSlotOrder}
 use Rattle.conn_map.specs.declared.key.ConnMapKey.{ConnMapKey}
 use Rattle.queue.specs.Queued.{QueuedLeft}
 use Rattle.queue.specs.Look.{PeekLeft}
 use Rattle.queue.specs.Means as means
-use Rattle.muxer_killq.specs.Item.{zeroItem, isAlike}
-use Rattle.muxer_killq.specs.Queue.{killq, items, NewSays}
+use Rattle.muxer_killq.specs.Item.{isAlike}
+use Rattle.muxer_killq.specs.Queue.{killq, soundQ, items, NewSays}
 use Rattle.muxer_killq.specs.Push.{PushIn, PushSays}
-use Rattle.muxer_killq.specs.Pop.{PeekSays, PopIn, PopLeft, noKey, PopSays}
+use Rattle.muxer_killq.specs.Pop.{PeekSays, PopIn, PopLeft, PopSays}
 use Rattle.muxer_killq.specs.Build.{BuildIn, BuildSays}
 use Rattle.muxer_killq.specs.Promises.{Sorted}
 use Rattle.muxer_killq.specs.declared.item.MuxerKillQItem.{MuxerKillQItem}
 use Rattle.muxer_killq.specs.declared.killq.MuxerKillQ.{MuxerKillQ}
 
+-- the zero item: ports 0, time 0
+abbrev pub nothing : MuxerKillQItem
+nothing = record { «local_port» = 0; «peer_port» = 0; «kill_time» = 0 }
+
+-- the ports of an item
+abbrev pub portsOf : MuxerKillQItem → ConnMapKey
+portsOf it = record { «local_port» = it .«local_port»; «peer_port» = it .«peer_port» }
+
 -- sound: K from 1 to 128, the length within it, the zero item in every place from the length on
 abbrev pub SoundMeans : Type 0
-SoundMeans = means.SoundMeans killq 1 128
+SoundMeans =
+    (q : MuxerKillQ)
+    → Exactly (soundQ q ≡ true) ((1 ≤ q .limit) × (q .limit ≤ 128) × (q .len ≤ q .limit) × ((n : ℕ) → q .len ≤ n → getD (q .q) n nothing ≡ nothing))
 
 -- ---- refusals
 
 -- DEMAND 1: answers 1 to 6 change nothing and give nothing
 pub record RefusalsChangeNothing : Type 0 where
   pub push : (i : PushIn) (o : QueuedLeft MuxerKillQ) → PushSays i o → Refuses (o .answer) → o .queue ≡ i .queue
-  pub pop : (i : PopIn) (o : PopLeft) → PopSays i o → Refuses (o .answer) → (o .queue ≡ i .queue) × (o .found ≡ false) × (o .given ≡ noKey)
-  pub peek : (q : MuxerKillQ) (o : PeekLeft MuxerKillQItem) → PeekSays q o → Refuses (o .answer) → (o .found ≡ false) × (o .item ≡ zeroItem)
+  pub pop : (i : PopIn) (o : PopLeft) → PopSays i o → Refuses (o .answer) → (o .queue ≡ i .queue) × (o .found ≡ false) × (o .given ≡ portsOf nothing)
+  pub peek : (q : MuxerKillQ) (o : PeekLeft MuxerKillQItem) → PeekSays q o → Refuses (o .answer) → (o .found ≡ false) × (o .item ≡ nothing)
 
 -- a refused opening or build gives an empty, synced queue of limit 0
 pub record RefusedIsEmpty : Type 0 where
@@ -57,9 +67,9 @@ killAt i n = record { «local_port» = getD (i .ports) n 0 / 2 ^ 32; «peer_port
 pub record BuiltMeans (i : BuildIn) (q : MuxerKillQ) : Type 0 where
   pub sorted : Sorted (items q)
   pub in-order : (time : ℕ)
-      → InSlotOrder (length (i .ports)) (λ (n : ℕ). amongFirst (i .limit) (aheadAt i) n && eqb (getD (i .times) n 0) time) (killAt i) zeroItem
+      → InSlotOrder (length (i .ports)) (λ (n : ℕ). amongFirst (i .limit) (aheadAt i) n && eqb (getD (i .times) n 0) time) (killAt i) nothing
       (chosen (λ (it : MuxerKillQItem). eqb (it .«kill_time») time) (items q))
-  pub no-more : length (items q) ≡ countBelow (amongFirst (i .limit) (aheadAt i)) (length (i .ports))
+  pub len : SmallerOf (q .len) (i .limit) (countBelow (aheadAt i) (length (i .ports)))
   pub limit : q .limit ≡ i .limit
   pub unsynced : Exactly (q .synced ≡ false) (i .limit < countBelow (aheadAt i) (length (i .ports)))
 
@@ -86,15 +96,11 @@ EveryPushMeans = (i : PushIn) (o : QueuedLeft MuxerKillQ) → PushSays i o → m
 abbrev pub EveryPeekMeans : Type 0
 EveryPeekMeans = (q : MuxerKillQ) (o : PeekLeft MuxerKillQItem) → PeekSays q o → means.Given killq q → means.PeekMeans killq q o
 
--- its ports
-abbrev pub portsOf : MuxerKillQItem → ConnMapKey
-portsOf it = record { «local_port» = it .«local_port»; «peer_port» = it .«peer_port» }
-
 -- a pop takes it where now is after its time, and gives its ports
 abbrev pub EveryPopMeans : Type 0
 EveryPopMeans =
     (i : PopIn) (o : PopLeft) → PopSays i o → means.Given killq (i .queue) → i .clock ≤ 2 ^ 62
-    → means.PopMeans killq (λ it. it .«kill_time» < i .clock) portsOf noKey (i .queue) o
+    → means.PopMeans killq (λ it. it .«kill_time» < i .clock) portsOf (portsOf nothing) (i .queue) o
 
 -- ---- an item
 

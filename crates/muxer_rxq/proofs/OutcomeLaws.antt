@@ -19,8 +19,8 @@ use Rattle.defs.proofs.Basics.{never, lt-or-ge}
 use Rattle.defs.proofs.ChoiceLaws.{when-true, when-false, when-holds}
 use Rattle.conn_map.specs.Key.{keyOf}
 use Rattle.conn_map.specs.Table.{usedAt, slotsOf}
-use Rattle.conn_map.specs.Order.{countBelow, amongFirst}
-use Rattle.conn_map.proofs.OrderLaws.{listed, listed-length, listed-in-order, listed-first, gathered-listed, by-list}
+use Rattle.conn_map.specs.Order.{countBelow, amongFirst, SmallerOf}
+use Rattle.conn_map.proofs.OrderLaws.{listed, listed-length, listed-in-order, listed-first, take-smaller, gathered-listed, by-list}
 use Rattle.queue.specs.Queued.{ListLeft, leaves, hasRoom, newOf}
 use Rattle.queue.specs.Pop.{popOf}
 use Rattle.queue.proofs.PlacesLaws.{positive}
@@ -87,6 +87,9 @@ module _ (i : BuildIn) where
             by-list
             (sym (ap items e ∙ queue-is-its-list rxq lawful .packed-items (take (i .limit) pending) (i .limit) (leb (length pending) (i .limit)) ∙ listed-first (pendsAt i) (connAt i) (i .limit) (length (i .ports))))
             (listed-in-order (amongFirst (i .limit) (pendsAt i)) (connAt i) zeroItem (length (i .ports)));
+        len =
+            subst (λ (m : ℕ). SmallerOf m (i .limit) (countBelow (pendsAt i) (length (i .ports)))) (sym (ap (λ (q : MuxerRxQ). q .len) e))
+            (take-smaller (i .limit) pending (countBelow (pendsAt i) (length (i .ports))) n);
         limit = ap (λ (q : MuxerRxQ). q .limit) e;
         unsynced = (
           λ u. (let h = leb-false (length pending) (i .limit) (sym (ap (λ (q : MuxerRxQ). q .synced) e) ∙ u) in omega (arith, n)),

@@ -1,34 +1,40 @@
 -- What a call does, said a second time: over what it was given and what it left, in 01's words, apart from the definitions that the code follows, so
 -- that a wrong behaviour put into both is refused here. Assumes nothing.
-use Prim.Native.Nat.{ℕ, _+_, _/_, _%_, _^_, _<_}
+use Prim.Native.Nat.{ℕ, _+_, _/_, _%_, _^_, _≤_, _<_}
 use mathlib.Core.Path.{_≡_}
 use mathlib.Core.Bool.{Bool, true, false, not, _&&_}
 use mathlib.Core.List.{List}
 use lib.Dec.{eqb}
 use lib.ListN.{length, getD}
 use Rattle.defs.specs.Promises.{Exactly, Refuses}
-use Rattle.conn_map.specs.Order.{countBelow, amongFirst, InSlotOrder}
+use Rattle.conn_map.specs.Order.{countBelow, amongFirst, SmallerOf, InSlotOrder}
 use Rattle.queue.specs.Queued.{QueuedLeft}
 use Rattle.queue.specs.Look.{PeekLeft}
 use Rattle.queue.specs.Means as means
-use Rattle.muxer_rxq.specs.Queue.{zeroItem, rxq, items, NewSays}
+use Rattle.muxer_rxq.specs.Queue.{rxq, soundQ, items, NewSays}
 use Rattle.muxer_rxq.specs.Push.{lastConn, PushIn, PushSays}
 use Rattle.muxer_rxq.specs.Pop.{PeekSays, PopLeft, PopSays}
 use Rattle.muxer_rxq.specs.Build.{BuildIn, BuildSays}
 use Rattle.muxer_rxq.specs.declared.rxq.MuxerRx.{MuxerRx}
 use Rattle.muxer_rxq.specs.declared.rxq.MuxerRxQ.{MuxerRxQ}
 
+-- the zero item: a connection, ports 0
+abbrev pub nothing : MuxerRx
+nothing = record { rst = false; «local_port» = 0; «peer_port» = 0 }
+
 -- sound: Q from 1 to 256, the length within it, the zero item in every place from the length on
 abbrev pub SoundMeans : Type 0
-SoundMeans = means.SoundMeans rxq 1 256
+SoundMeans =
+    (q : MuxerRxQ)
+    → Exactly (soundQ q ≡ true) ((1 ≤ q .limit) × (q .limit ≤ 256) × (q .len ≤ q .limit) × ((n : ℕ) → q .len ≤ n → getD (q .q) n nothing ≡ nothing))
 
 -- ---- refusals
 
 -- DEMAND 1: answers 1 to 6 change nothing and give nothing
 pub record RefusalsChangeNothing : Type 0 where
   pub push : (i : PushIn) (o : QueuedLeft MuxerRxQ) → PushSays i o → Refuses (o .answer) → o .queue ≡ i .queue
-  pub pop : (q : MuxerRxQ) (o : PopLeft) → PopSays q o → Refuses (o .answer) → (o .queue ≡ q) × (o .found ≡ false) × (o .given ≡ zeroItem)
-  pub peek : (q : MuxerRxQ) (o : PeekLeft MuxerRx) → PeekSays q o → Refuses (o .answer) → (o .found ≡ false) × (o .item ≡ zeroItem)
+  pub pop : (q : MuxerRxQ) (o : PopLeft) → PopSays q o → Refuses (o .answer) → (o .queue ≡ q) × (o .found ≡ false) × (o .given ≡ nothing)
+  pub peek : (q : MuxerRxQ) (o : PeekLeft MuxerRx) → PeekSays q o → Refuses (o .answer) → (o .found ≡ false) × (o .item ≡ nothing)
 
 -- a refused opening or build gives an empty, synced queue of limit 0
 pub record RefusedIsEmpty : Type 0 where
@@ -51,7 +57,8 @@ connAt i n = record { rst = false; «local_port» = getD (i .ports) n 0 / 2 ^ 32
 
 -- 01: built from the table in slot order, of the slots that are pending those with fewer than Q before them; unsynced exactly if more than Q are pending
 pub record BuiltMeans (i : BuildIn) (q : MuxerRxQ) : Type 0 where
-  pub in-order : InSlotOrder (length (i .ports)) (amongFirst (i .limit) (pendsAt i)) (connAt i) zeroItem (items q)
+  pub in-order : InSlotOrder (length (i .ports)) (amongFirst (i .limit) (pendsAt i)) (connAt i) nothing (items q)
+  pub len : SmallerOf (q .len) (i .limit) (countBelow (pendsAt i) (length (i .ports)))
   pub limit : q .limit ≡ i .limit
   pub unsynced : Exactly (q .synced ≡ false) (i .limit < countBelow (pendsAt i) (length (i .ports)))
 
@@ -62,11 +69,11 @@ BuiltHolds = (i : BuildIn) (o : QueuedLeft MuxerRxQ) → BuildSays i o → o .an
 
 -- the item at n is a connection, and every item behind it is an RST
 abbrev pub RearmostAt : List MuxerRx → ℕ → Type 0
-RearmostAt l n = (n < length l) × (getD l n zeroItem .rst ≡ false) × ((m : ℕ) → n < m → m < length l → getD l m zeroItem .rst ≡ true)
+RearmostAt l n = (n < length l) × (getD l n nothing .rst ≡ false) × ((m : ℕ) → n < m → m < length l → getD l m nothing .rst ≡ true)
 
 -- every item is an RST
 abbrev pub AllRsts : List MuxerRx → Type 0
-AllRsts l = (n : ℕ) → n < length l → getD l n zeroItem .rst ≡ true
+AllRsts l = (n : ℕ) → n < length l → getD l n nothing .rst ≡ true
 
 -- what `lastConn` encodes: one more than the place of the rearmost connection, or 0
 pub record LastConnMeans (l : List MuxerRx) : Type 0 where
@@ -95,4 +102,4 @@ EveryPeekMeans = (q : MuxerRxQ) (o : PeekLeft MuxerRx) → PeekSays q o → mean
 
 -- a pop takes it, whatever it is
 abbrev pub EveryPopMeans : Type 0
-EveryPopMeans = (q : MuxerRxQ) (o : PopLeft) → PopSays q o → means.Given rxq q → means.PopMeans rxq (λ it. Unit) (λ it. it) zeroItem q o
+EveryPopMeans = (q : MuxerRxQ) (o : PopLeft) → PopSays q o → means.Given rxq q → means.PopMeans rxq (λ it. Unit) (λ it. it) nothing q o

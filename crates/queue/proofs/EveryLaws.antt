@@ -130,7 +130,7 @@ module _ {Q A : Type 0} (k : Kind Q A) (w : Lawful k) where
     s = sound-says k w q (g .0) (g .1)
 
     -- a place holds its item, or the zero item past the last
-    pub place-is : (n : ℕ) → placeOf k q n ≡ getD (items k q) n (k .zeroItem)
+    place-is : (n : ℕ) → placeOf k q n ≡ getD (items k q) n (k .zeroItem)
     place-is n = ap (λ (l : List A). getD l n (k .zeroItem)) (s .cleared) ∙ getD-padded (k .size) (k .zeroItem) (items k q) n
 
     pub passed : recordAnswer (soundQ k q) ≡ Done
