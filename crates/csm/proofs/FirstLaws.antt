@@ -43,11 +43,11 @@ module _ (t : Turn) where
         λ q. m .1 (((q .0, q .1, q .2), q .3), g ∙ q .4),
       )
 
-  reads-means : Exactly (turnReads (t .pending) (t .state) (t .noCredit) (t .present) ≡ true) (Reads t)
+  pub reads-means : Exactly (turnReads (t .pending) (t .state) (t .noCredit) (t .present) ≡ true) (Reads t)
   unfolding turnReads
   reads-means = flat (and-means (and-means data-means (not-as-is (t .noCredit))) (as-is (t .present)))
 
-  buffer-means : Exactly (lacksBuffer (t .pending) (t .state) (t .noCredit) (t .present) ≡ true) (BufferMissing t)
+  pub buffer-means : Exactly (lacksBuffer (t .pending) (t .state) (t .noCredit) (t .present) ≡ true) (BufferMissing t)
   unfolding lacksBuffer
   buffer-means = flat (and-means (and-means data-means (not-as-is (t .noCredit))) (not-as-is (t .present)))
 
@@ -62,7 +62,7 @@ module _ (t : Turn) where
       let m = and-means earlier-means (or-means (not-as-is (t .pending .rw)) (and-means reads-means (blocks-means (t .answer)))) in
       (λ e. let p = m .0 e in (p .0 .0, p .0 .1, p .0 .2, p .1), λ q. m .1 ((q .0, q .1, q .2), q .3))
 
-  nothing-means : Exactly (hasNothing (t .pending) (t .state) (t .noCredit) (t .present) (t .answer) ≡ true) (NothingToSay t)
+  pub nothing-means : Exactly (hasNothing (t .pending) (t .state) (t .noCredit) (t .present) (t .answer) ≡ true) (NothingToSay t)
   unfolding hasNothing
   nothing-means = and-means update-means (not-as-is (t .pending .«credit_update»))
 

@@ -137,7 +137,7 @@ record-number false = refl
 pub record-answers : RecordAnswers
 record-answers sound = by-turn (told (recordAnswer sound)) (row 1 (not-as-is sound) ∷ []) (record-number sound)
 
-clock-number : (s c : Bool) → told (doorOf (not s) false (not c) false) .number ≡ firstInTurn ((1, not s) ∷ (3, not c) ∷ [])
+pub clock-number : (s c : Bool) → told (doorOf (not s) false (not c) false) .number ≡ firstInTurn ((1, not s) ∷ (3, not c) ∷ [])
 unfolding doorOf when
 clock-number true true = refl
 clock-number true false = refl

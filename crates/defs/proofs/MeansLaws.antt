@@ -1,10 +1,11 @@
 -- What a test means, made of what its parts mean. Assumes nothing.
-use Prim.Native.Nat.{ℕ, _<_, _≤_}
+use Prim.Native.Nat.{ℕ, zero, suc, _<_, _≤_}
 use mathlib.Core.Path.{_≡_, refl, sym, ap, _∙_}
 use mathlib.Core.Logic.{_⊎_, inl, inr, ⊎-elim}
 use mathlib.Core.Bool.{Bool, true, false, not, _&&_, _||_}
+use native.Mathlib.Omega.{arith}
 use lib.Dec.{leb, ltb, eqb}
-use borrow.Author.Tests.{ltb-true, lt-ltb, leb-true, leb-false, le-leb, lt-leb, eqb-true, eq-eqb, not-true}
+use borrow.Author.Tests.{ltb-true, lt-ltb, leb-true, leb-false, le-leb, lt-leb, eqb-true, eqb-false, eq-eqb, ne-eqb, not-true}
 use Rattle.defs.specs.Promises.{Exactly}
 use Rattle.defs.proofs.Basics.{never, true-or-false, both, or-left}
 
@@ -14,6 +15,14 @@ as-is b = (λ e. e, λ e. e)
 pub not-as-is : (b : Bool) → Exactly (not b ≡ true) (b ≡ false)
 not-as-is b = (not-true b, λ e. ap not e)
 
+-- a test that gives the same means the same
+pub same-means : {a b : Bool} {P : Type 0} → a ≡ b → Exactly (b ≡ true) P → Exactly (a ≡ true) P
+same-means e m = (λ t. m .0 (sym e ∙ t), λ p. e ∙ m .1 p)
+
+-- and so does one whose fact is said in other words
+pub in-words : {t P Q : Type 0} → Exactly t P → Exactly P Q → Exactly t Q
+in-words m n = (λ x. n .0 (m .0 x), λ q. m .1 (n .1 q))
+
 pub below-means : (a b : ℕ) → Exactly (ltb a b ≡ true) (a < b)
 below-means a b = (ltb-true a b, lt-ltb a b)
 
@@ -22,6 +31,14 @@ within-means a b = (leb-true a b, le-leb a b)
 
 pub over-means : (a b : ℕ) → Exactly (not (leb a b) ≡ true) (b < a)
 over-means a b = (λ e. leb-false a b (not-true _ e), λ l. ap not (lt-leb a b l))
+
+-- at least one
+pub some-means : (n : ℕ) → Exactly (not (eqb n 0) ≡ true) (0 < n)
+some-means n = (λ e. some-of n (eqb-false n 0 (not-true _ e)), λ l. ap not (ne-eqb n 0 (λ z. let y : n ≡ 0 = z in omega arith)))
+  where
+    some-of : (n : ℕ) → (n ≡ 0 → ⊥) → 0 < n
+    some-of zero f = absurd (f refl)
+    some-of (suc n) f = omega arith
 
 pub equal-means : (a b : ℕ) → Exactly (eqb a b ≡ true) (a ≡ b)
 equal-means a b = (eqb-true a b, eq-eqb a b)

@@ -1,32 +1,91 @@
 -- Each call of a connection answers by 01's rows. Assumes nothing.
+use Prim.Native.Nat.{ℕ, _^_, _<_}
 use mathlib.Core.Path.{_≡_, refl, sym, ap, _∙_}
+use mathlib.Core.Logic.{_⊎_}
 use mathlib.Core.Bool.{Bool, true, false, not, _&&_, _||_}
-use mathlib.Core.List.{[], _∷_}
+use mathlib.Core.List.{List, [], _∷_}
+use native.Mathlib.Omega.{arith}
 use lib.Dec.{ltb, eqb}
 use lib.ListN.{length}
+use borrow.Author.Tests.{le-ltb}
 use Rattle.defs.specs.Choice.{when}
 use Rattle.defs.specs.Answer.{Told, told, isDone, whenDone}
-use Rattle.defs.specs.Ladder.{doorOf, lateOf, lowestOf, recordAnswer}
-use Rattle.defs.specs.Limits.{isHeaderLength, isClock, isPacketLength}
-use Rattle.defs.specs.Stream.{readCounted, stoppedBy, stops}
+use Rattle.defs.specs.Ladder.{doorOf, lateOf, lowestOf, recordAnswer, clockAnswer}
+use Rattle.defs.specs.Look.{FlagLeft, flagOf}
+use Rattle.defs.specs.Limits.{isHeaderLength, isClock, isPacketLength, isRingSize}
+use Rattle.defs.specs.Promises.{Exactly, AnswersInTurn}
+use Rattle.defs.specs.Stream.{counted, readCounted, stoppedBy, stops}
 use Rattle.defs.specs.declared.answer.Answer.{Answer}
 use Rattle.defs.specs.declared.answer.Answer.the-variants.{Done}
 use Rattle.defs.specs.declared.stream.StreamAnswer.{StreamAnswer}
 use Rattle.defs.specs.declared.stream.StreamAnswer.the-variants.{Count, WouldBlock, Failed}
 use Rattle.defs.proofs.AnswerLaws.{answer-told}
 use Rattle.defs.proofs.ChoiceLaws.{ap-when}
-use Rattle.defs.proofs.MeansLaws.{as-is}
-use Rattle.defs.proofs.LadderLaws.{firstInTurn, by-turn, row, ladder-then, lowest-end, stop-number}
+use Rattle.defs.proofs.LimitLaws.{limits-mean, ring-sizes, packet-over, clock-over}
+use Rattle.defs.proofs.MeansLaws.{as-is, some-means, same-means, in-words, not-means, and-means, or-means, below-means, equal-means}
+use Rattle.defs.proofs.LadderLaws.{firstInTurn, by-turn, row, ladder-then, lowest-end, record-number, clock-number, stop-number}
+use Rattle.packet.specs.Header.{decoded}
+use Rattle.packet.specs.Uapi.{opRw}
+use Rattle.txbuf.specs.Record.{usedOf, soundRecord, soundOf}
 use Rattle.txbuf.specs.Flush.{endsBy, flushAnswer, flushCount, flushOver}
+use Rattle.txbuf.specs.Means.{countedNow}
+use Rattle.txbuf.proofs.Promises.{sound-means as ring-means}
+use Rattle.txbuf.proofs.AnswerLaws.{count-is, over-is, tooMuch, too-much-means}
+use Rattle.csm.specs.State.{takes}
 use Rattle.csm.specs.Turn.{hasNothing, lacksBuffer}
+use Rattle.csm.specs.Said.{Reads}
+use Rattle.csm.proofs.Promises.{every-state-means}
+use Rattle.csm.proofs.FirstLaws.{reads-means, nothing-means, buffer-means}
 use Rattle.csm.proofs.TurnLaws.{turn-number}
-use Rattle.rules.specs.Record.{soundConn, soundOver, creditOf}
-use Rattle.rules.specs.Send.{SendIn, SendLeft, pktOf, sendPlan, tooLong, sendDoorOf, sendDoor, sendLate, sendAnswer, sendDone, sendKept, sendOf}
+use Rattle.rules.specs.Record.{okSettings, soundConn, soundOver, quiet, creditOf}
+use Rattle.rules.specs.Open.{ConnLeft, openAnswer, peerInitOf, localInitOf}
+use Rattle.rules.specs.Look.{ExpiryLeft, StateLeft, EvSetLeft, expiryOf, stateOf, evSetOf, killOf}
+use Rattle.rules.specs.Send.{SendIn, SendLeft, goesOf, writesOf, planOf, pktOf, sendPlan, tooLong, sendDoorOf, sendDoor, sendLate, sendAnswer, sendDone, sendKept, sendOf}
 use Rattle.rules.specs.Receive.{RecvIn, RecvLeft, readsOf, askedOf, recvDoor, recvRefusal, refusalOf, saidBy, recvDone, recvKept, recvOf}
 use Rattle.rules.specs.Notify.{NotifyIn, NotifyLeft, due, flushIn, absorbed, notifyDoor, notifyAnswer, notifyDone, notifyKept, notifyOf}
 use Rattle.rules.specs.Raw.{RawIn, RawLeft, rawCount, rawDoor, rawAnswer, rawDone, rawKept, rawOf}
-use Rattle.rules.specs.Answers.{SendAnswers, RecvAnswers, NotifyAnswers, RawAnswers}
+use Rattle.rules.specs.Outcomes.{turnOf}
+use Rattle.rules.specs.Answers.{InRange, Sound, SoundMeans, OpenAnswers, LookAnswers, PacketTooLong, Writes, SendAnswers, askedNow, RecvAnswers, Flushes, NotifyAnswers, RawAnswers, DoorAnswers}
+use Rattle.rules.specs.declared.record.Settings.{Settings}
+use Rattle.rules.specs.declared.record.VsockConnection.{VsockConnection}
 use Rattle.rules.proofs.RecordLaws.{sound-over-ring}
+
+-- ---- soundness
+
+settings-mean : (size : ℕ) (g : Settings) → Exactly (isRingSize size && okSettings g size ≡ true) (InRange size g)
+unfolding okSettings
+settings-mean size g =
+    in-words
+    (and-means (ring-sizes size) (and-means (and-means (limits-mean .threshold (g .threshold) size) (limits-mean .timeout (g .«request_timeout»))) (limits-mean .timeout (g .«shutdown_timeout»)))) (
+      λ p. record { power = p .0 .0; least = p .0 .1; most = p .0 .2; threshold = p .1 .0 .0; request = p .1 .0 .1; shutdown = p .1 .1 },
+      λ r. ((r .power, r .least, r .most), ((r .threshold, r .request), r .shutdown)),
+    )
+
+-- the ring's part and the settings' part, put together
+alone-means : (c : VsockConnection) → Exactly (soundConn c ≡ true) (Sound c)
+unfolding soundConn okSettings
+alone-means c =
+    let g = c .settings in
+    let size = c .«tx_buf» .size in
+    in-words
+    (and-means (ring-means .alone (c .«tx_buf»)) (and-means (and-means (limits-mean .threshold (g .threshold) size) (limits-mean .timeout (g .«request_timeout»))) (limits-mean .timeout (g .«shutdown_timeout»)))) (
+      λ p. record { settings = record { power = p .0 .power; least = p .0 .least; most = p .0 .most; threshold = p .1 .0 .0; request = p .1 .0 .1; shutdown = p .1 .1 }; held = p .0 .within },
+      λ r. let s = r .settings in (record { power = s .power; least = s .least; most = s .most; within = r .held }, ((s .threshold, s .request), s .shutdown)),
+    )
+
+over-parts : (a b c : Bool) → a && b && c ≡ a && c && b
+over-parts true true true = refl
+over-parts true true false = refl
+over-parts true false true = refl
+over-parts true false false = refl
+over-parts false b c = refl
+
+pub sound-means : SoundMeans
+unfolding soundOver soundConn soundOf
+sound-means = record {
+  alone = alone-means;
+  over = λ c storage. same-means (over-parts (soundRecord (c .«tx_buf»)) (eqb storage (c .«tx_buf» .size)) _) (and-means (alone-means c) (equal-means storage (c .«tx_buf» .size)));
+}
 
 -- ---- a packet
 
@@ -34,12 +93,46 @@ send-told : (i : SendIn) → sendOf i .answer ≡ told (sendAnswer i)
 unfolding sendOf sendDone sendKept
 send-told i = answer-told (λ (o : SendLeft). o .answer) (sendAnswer i) (sendDone i) (sendKept i) refl refl
 
+too-long-means : (present : Bool) (buf : ℕ) (hdr : List ℕ) → Exactly (present && tooLong (decoded hdr) buf ≡ true) (PacketTooLong present buf hdr)
+too-long-means present buf hdr =
+    and-means (as-is present) (or-means (packet-over buf) (and-means (equal-means (decoded hdr .op) opRw) (below-means buf (decoded hdr .len))))
+
+writes-means : (i : SendIn) → Exactly (writesOf (i .conn) (pktOf i .op) (i .present) ≡ true) (Writes i)
+unfolding goesOf quiet
+writes-means i =
+    in-words
+    (and-means (and-means (and-means (same-means (every-state-means (i .conn .state) .takes) (as-is _)) (as-is (i .present))) (equal-means (pktOf i .op) opRw)) (equal-means (usedOf (i .conn .«tx_buf»)) 0))
+    (λ p. (p .0 .0 .0, p .0 .0 .1, p .0 .1, p .1), λ q. (((q .0, q .1), q .2), q .3))
+
+-- a count that is over something, of a write that is made
+over-written : (writes : Bool) (limit n : ℕ) → ltb limit (when writes n 0) ≡ writes && ltb limit n
+unfolding when
+over-written true limit n = refl
+over-written false limit n = le-ltb limit 0 (omega arith)
+
+over-offered : (goes empty : Bool) (len n : ℕ) → ltb (when goes len 0) (when (goes && empty) n 0) ≡ goes && empty && ltb len n
+unfolding when
+over-offered true empty len n = over-written empty len n
+over-offered false empty len n = le-ltb 0 0 (omega arith)
+
+offered-means : (i : SendIn) → Exactly (ltb (sendPlan i .len) (sendPlan i .written) ≡ true) (Writes i × (decoded (i .hdr) .len < counted (i .answers .first)))
+unfolding planOf
+offered-means i =
+    same-means (over-offered (goesOf (i .conn) (pktOf i .op) (i .present)) (quiet (i .conn .«tx_buf»)) (pktOf i .len) (counted (i .answers .first)))
+    (and-means (writes-means i) (below-means (pktOf i .len) (counted (i .answers .first))))
+
+room-means : (i : SendIn) → Exactly (ltb (length (i .out)) (sendPlan i .written) ≡ true) (Writes i × (length (i .out) < counted (i .answers .first)))
+unfolding planOf
+room-means i =
+    same-means (over-written (writesOf (i .conn) (pktOf i .op) (i .present)) (length (i .out)) (counted (i .answers .first)))
+    (and-means (writes-means i) (below-means (length (i .out)) (counted (i .answers .first))))
+
 pub send-answers : SendAnswers
-unfolding sendAnswer sendDoor sendDoorOf sendLate when
+unfolding sendAnswer sendDoor sendDoorOf sendLate
 send-answers i left says =
     by-turn (left .answer)
-    (row 1 (as-is (not (soundOver (i .conn) (length (i .store))))) ∷ row 2 (as-is (not (isHeaderLength (length (i .hdr))))) ∷ row 3 (as-is (not (isClock (i .clock))))
-    ∷ row 4 (as-is (i .present && tooLong (pktOf i) (length (i .buf)))) ∷ row 5 (as-is (ltb (sendPlan i .len) (sendPlan i .written))) ∷ row 6 (as-is (ltb (length (i .out)) (sendPlan i .written))) ∷ [])
+    (row 1 (not-means (sound-means .over (i .conn) (length (i .store)))) ∷ row 2 (not-means (limits-mean .header (length (i .hdr)))) ∷ row 3 (clock-over (i .clock))
+    ∷ row 4 (too-long-means (i .present) (length (i .buf)) (i .hdr)) ∷ row 5 (offered-means i) ∷ row 6 (room-means i) ∷ [])
     (ap (λ (o : SendLeft). o .answer .number) says ∙ ap (λ (t : Told). t .number) (send-told i) ∙ ap (λ (a : Answer). told a .number) (sym (lowest-end _))
     ∙ ladder-then (not (soundOver (i .conn) (length (i .store)))) (not (isHeaderLength (length (i .hdr)))) (not (isClock (i .clock)))
     (i .present && tooLong (pktOf i) (length (i .buf))) (ltb (sendPlan i .len) (sendPlan i .written)) (ltb (length (i .out)) (sendPlan i .written)) Done [] refl)
@@ -52,15 +145,18 @@ unfolding recvOf recvDone recvKept lowestOf whenDone
 recv-told i =
     ap-when (λ (o : RecvLeft). o .answer) (isDone (refusalOf i)) (recvDone i) (recvKept i) ∙ sym (ap-when told (isDone (refusalOf i)) (saidBy i .answer) (refusalOf i))
 
+read-means : (i : RecvIn)
+    → Exactly (readsOf (i .conn) (i .present) && (ltb (askedOf (i .conn) (length (i .buf))) (readCounted (i .answer)) || ltb (length (i .read)) (readCounted (i .answer))) ≡ true)
+    (Reads (turnOf i) × ((askedNow i < readCounted (i .answer)) ⊎ (length (i .read) < readCounted (i .answer))))
+unfolding creditOf
+read-means i = and-means (reads-means (turnOf i)) (or-means (below-means (askedOf (i .conn) (length (i .buf))) (readCounted (i .answer))) (below-means (length (i .read)) (readCounted (i .answer))))
+
 pub recv-answers : RecvAnswers
-unfolding recvRefusal recvDoor when
+unfolding recvRefusal recvDoor creditOf when
 recv-answers i left says =
     by-turn (left .answer)
-    (row 1 (as-is (not (soundConn (i .conn)))) ∷ row 2 (as-is (not (isHeaderLength (length (i .hdr))))) ∷ row 3 (as-is (not (isClock (i .clock))))
-    ∷ row 4 (as-is (i .present && not (isPacketLength (length (i .buf)))))
-    ∷ row 5 (as-is (readsOf (i .conn) (i .present) && (ltb (askedOf (i .conn) (length (i .buf))) (readCounted (i .answer)) || ltb (length (i .read)) (readCounted (i .answer)))))
-    ∷ row 7 (as-is (hasNothing (i .conn .«pending_rx») (i .conn .state) (eqb (creditOf (i .conn)) 0) (i .present) (i .answer)))
-    ∷ row 8 (as-is (lacksBuffer (i .conn .«pending_rx») (i .conn .state) (eqb (creditOf (i .conn)) 0) (i .present))) ∷ [])
+    (row 1 (not-means (sound-means .alone (i .conn))) ∷ row 2 (not-means (limits-mean .header (length (i .hdr)))) ∷ row 3 (clock-over (i .clock))
+    ∷ row 4 (and-means (as-is (i .present)) (packet-over (length (i .buf)))) ∷ row 5 (read-means i) ∷ row 7 (nothing-means (turnOf i)) ∷ row 8 (buffer-means (turnOf i)) ∷ [])
     (ap (λ (o : RecvLeft). o .answer .number) says ∙ ap (λ (t : Told). t .number) (recv-told i)
     ∙ ladder-then (not (soundConn (i .conn))) (not (isHeaderLength (length (i .hdr)))) (not (isClock (i .clock))) (i .present && not (isPacketLength (length (i .buf))))
     (readsOf (i .conn) (i .present) && (ltb (askedOf (i .conn) (length (i .buf))) (readCounted (i .answer)) || ltb (length (i .read)) (readCounted (i .answer)))) false
@@ -102,13 +198,26 @@ pub notify-told : (i : NotifyIn) → notifyOf i .answer ≡ told (notifyAnswer i
 unfolding notifyOf notifyDone notifyKept
 notify-told i = answer-told (λ (o : NotifyLeft). o .answer) (notifyAnswer i) (notifyDone i) (notifyKept i) refl refl
 
+due-means : (i : NotifyIn) → Exactly (due i ≡ true) (Flushes i)
+unfolding quiet
+due-means i = and-means (as-is (i .writable)) (some-means (usedOf (i .conn .«tx_buf»)))
+
+-- what a flush is judged by, in the ring's words: of a sound ring
+flush-late-words : (i : NotifyIn) → soundOver (i .conn) (length (i .store)) ≡ true
+    → absorbed (flushAnswer (flushIn i)) ≡ lateOf (tooMuch (i .conn .«tx_buf») (i .answers)) (ltb (length (i .out)) (countedNow (i .conn .«tx_buf») (i .answers)))
+flush-late-words i s =
+    flush-late i s ∙ ap (λ (b : Bool). lateOf b (ltb (length (i .out)) (flushCount (flushIn i)))) (over-is (flushIn i) (sound-over-ring (i .conn) (length (i .store)) s))
+    ∙ ap (λ (n : ℕ). lateOf (tooMuch (i .conn .«tx_buf») (i .answers)) (ltb (length (i .out)) n)) (count-is (flushIn i))
+
 pub notify-answers : NotifyAnswers
 unfolding notifyAnswer notifyDoor
 notify-answers i left says =
+    let b = i .conn .«tx_buf» in
     by-turn (left .answer)
-    (row 1 (as-is (not (soundOver (i .conn) (length (i .store))))) ∷ row 5 (as-is (due i && flushOver (flushIn i))) ∷ row 6 (as-is (due i && ltb (length (i .out)) (flushCount (flushIn i)))) ∷ [])
+    (row 1 (not-means (sound-means .over (i .conn) (length (i .store)))) ∷ row 5 (and-means (due-means i) (too-much-means b (i .answers)))
+    ∷ row 6 (and-means (due-means i) (below-means (length (i .out)) (countedNow b (i .answers)))) ∷ [])
     (ap (λ (o : NotifyLeft). o .answer .number) says ∙ ap (λ (t : Told). t .number) (notify-told i)
-    ∙ event-number (soundOver (i .conn) (length (i .store))) (due i) (flushOver (flushIn i)) (ltb (length (i .out)) (flushCount (flushIn i))) _ (flush-late i))
+    ∙ event-number (soundOver (i .conn) (length (i .store))) (due i) (tooMuch b (i .answers)) (ltb (length (i .out)) (countedNow b (i .answers))) _ (flush-late-words i))
 
 -- ---- the raw send
 
@@ -120,8 +229,65 @@ pub raw-answers : RawAnswers
 unfolding rawAnswer rawDoor when
 raw-answers i left says =
     by-turn (left .answer)
-    (row 1 (as-is (not (soundConn (i .conn)))) ∷ row 4 (as-is (not (isPacketLength (length (i .buf))))) ∷ row 5 (as-is (ltb (length (i .buf)) (rawCount i)))
-    ∷ row 6 (as-is (ltb (length (i .out)) (rawCount i))) ∷ row 10 (as-is (stops (i .answers .first))) ∷ [])
+    (row 1 (not-means (sound-means .alone (i .conn))) ∷ row 4 (packet-over (length (i .buf))) ∷ row 5 (below-means (length (i .buf)) (rawCount i))
+    ∷ row 6 (below-means (length (i .out)) (rawCount i)) ∷ row 10 (as-is (stops (i .answers .first))) ∷ [])
     (ap (λ (o : RawLeft). o .answer .number) says ∙ ap (λ (t : Told). t .number) (raw-told i)
     ∙ ladder-then (not (soundConn (i .conn))) false false (not (isPacketLength (length (i .buf)))) (ltb (length (i .buf)) (rawCount i)) (ltb (length (i .out)) (rawCount i))
     (stoppedBy (i .answers .first)) ((10, stops (i .answers .first)) ∷ []) (stop-number (i .answers .first)))
+
+-- ---- openings, looks and doors
+
+-- a call that tests nothing but its record, and one that tests its clock besides
+by-record : (t : Told) (sound : Bool) (P : Type 0) → t ≡ told (recordAnswer sound) → Exactly (sound ≡ true) P → AnswersInTurn t ((1, P → ⊥) ∷ [])
+by-record t sound P e m = by-turn t (row 1 (not-means m) ∷ []) (ap (λ (x : Told). x .number) e ∙ record-number sound)
+
+by-clock : (t : Told) (sound : Bool) (ms : ℕ) (P : Type 0) → t ≡ told (clockAnswer sound ms) → Exactly (sound ≡ true) P
+    → AnswersInTurn t ((1, P → ⊥) ∷ (3, 2 ^ 62 < ms) ∷ [])
+unfolding clockAnswer
+by-clock t sound ms P e m = by-turn t (row 1 (not-means m) ∷ row 3 (clock-over ms) ∷ []) (ap (λ (x : Told). x .number) e ∙ clock-number sound (isClock ms))
+
+pub open-answers : OpenAnswers
+unfolding peerInitOf localInitOf openAnswer
+open-answers = record {
+  peer = λ o left says. by-record _ _ _ (ap (λ (x : ConnLeft). x .answer) says) (settings-mean (o .size) (o .settings));
+  local = λ o left says. by-record _ _ _ (ap (λ (x : ConnLeft). x .answer) says) (settings-mean (o .size) (o .settings));
+}
+
+pub look-answers : LookAnswers
+unfolding flagOf expiryOf stateOf evSetOf killOf
+look-answers = record {
+  pending = λ c left says. by-record _ _ _ (ap (λ (x : FlagLeft). x .answer) says) (alone-means c);
+  will-expire = λ i left says. by-clock _ _ (i .clock) _ (ap (λ (x : FlagLeft). x .answer) says) (alone-means (i .conn));
+  has-expired = λ i left says. by-clock _ _ (i .clock) _ (ap (λ (x : FlagLeft). x .answer) says) (alone-means (i .conn));
+  expiry = λ c left says. by-record _ _ _ (ap (λ (x : ExpiryLeft). x .answer) says) (alone-means c);
+  state = λ c left says. by-record _ _ _ (ap (λ (x : StateLeft). x .answer) says) (alone-means c);
+  polled = λ c left says. by-record _ _ _ (ap (λ (x : EvSetLeft). x .answer) says) (alone-means c);
+  kill = λ c left says. by-record _ _ _ (ap (λ (x : ConnLeft). x .answer) says) (alone-means c);
+}
+
+-- a door is a ladder that no late rung follows
+door-number : (r h c l : Bool) → told (doorOf r h c l) .number ≡ firstInTurn ((1, r) ∷ (2, h) ∷ (3, c) ∷ (4, l) ∷ [])
+unfolding doorOf when
+door-number true h c l = refl
+door-number false true c l = refl
+door-number false false true l = refl
+door-number false false false true = refl
+door-number false false false false = refl
+
+pub door-answers : DoorAnswers
+unfolding sendDoor sendDoorOf recvDoor notifyDoor rawDoor when
+door-answers = record {
+  send = λ g t says.
+      by-turn t
+      (row 1 (not-means (sound-means .over (g .conn) (length (g .store)))) ∷ row 2 (not-means (limits-mean .header (length (g .hdr)))) ∷ row 3 (clock-over (g .clock))
+      ∷ row 4 (too-long-means (g .present) (length (g .buf)) (g .hdr)) ∷ [])
+      (ap (λ (x : Told). x .number) says ∙ door-number _ _ _ _);
+  recv = λ g t says.
+      by-turn t
+      (row 1 (not-means (sound-means .alone (g .conn))) ∷ row 2 (not-means (limits-mean .header (length (g .hdr)))) ∷ row 3 (clock-over (g .clock))
+      ∷ row 4 (and-means (as-is (g .present)) (packet-over (length (g .buf)))) ∷ [])
+      (ap (λ (x : Told). x .number) says ∙ door-number _ _ _ _);
+  notify = λ c store t says. by-record _ _ _ says (sound-means .over c (length store));
+  raw = λ c buf t says.
+      by-turn t (row 1 (not-means (sound-means .alone c)) ∷ row 4 (packet-over (length buf)) ∷ []) (ap (λ (x : Told). x .number) says ∙ door-number _ false false _);
+}

@@ -3,8 +3,8 @@ pub mod RecordLaws
 pub mod ReceiveLaws
 pub mod SendLaws
 pub mod AnswerLaws
-pub mod OutcomeLaws
-pub mod LeavesLaws
+pub mod CallLaws
+pub mod ChangeLaws
 pub mod OfferLaws
 pub mod MovesLaws
 pub mod RunLaws

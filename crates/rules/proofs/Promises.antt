@@ -1,6 +1,6 @@
 -- The promises of specs/Promises and specs/Answers, Outcomes, Runs and Stories, each by its law. Assumes nothing.
 use Rattle.rules.specs.Promises.{SendMoves, NotifyMoves, SendCountedOff, NotifyCountedOff, NotifyOffersPieces, ReadWithinAsked, ReceiveKeeps, KillKeeps, EdgesHold}
-use Rattle.rules.specs.Answers.{SendAnswers, RecvAnswers, NotifyAnswers, RawAnswers}
+use Rattle.rules.specs.Answers.{SoundMeans, OpenAnswers, LookAnswers, DoorAnswers, SendAnswers, RecvAnswers, NotifyAnswers, RawAnswers}
 use Rattle.rules.specs.Outcomes.{RefusalsChangeNothing, EverySendHears, EverySendAccepts, UpdateIsDue, EveryTurnLeaves, HeaderTells, SevenAndEightLeave, EveryKillKills, EveryPollPolls, ExpiryMeans}
 use Rattle.rules.specs.Leaves.{EverySendLeaves, EveryNotifyLeaves, TimersArm, LastToldMoves}
 use Rattle.rules.specs.Runs.{EveryRunForwards, CutsDoNotMatter, FlagsOnlyGrow, Drains}
@@ -8,13 +8,25 @@ use Rattle.rules.specs.Stories.{StoriesHold}
 use Rattle.rules.proofs.Edges as edges
 use Rattle.rules.proofs.AnswerLaws as answers
 use Rattle.rules.proofs.MovesLaws as moves
-use Rattle.rules.proofs.OutcomeLaws as outcomes
-use Rattle.rules.proofs.LeavesLaws as leaves
+use Rattle.rules.proofs.CallLaws as outcomes
+use Rattle.rules.proofs.ChangeLaws as leaves
 use Rattle.rules.proofs.RunLaws as forwarding
 use Rattle.rules.proofs.FlagLaws as flags
 use Rattle.rules.proofs.DrainLaws as draining
 use Rattle.rules.proofs.Stories as stories
 use Rattle.rules.proofs.OfferLaws as offers
+
+pub sound-means : SoundMeans
+sound-means = answers.sound-means
+
+pub open-answers : OpenAnswers
+open-answers = answers.open-answers
+
+pub look-answers : LookAnswers
+look-answers = answers.look-answers
+
+pub door-answers : DoorAnswers
+door-answers = answers.door-answers
 
 pub send-answers : SendAnswers
 send-answers = answers.send-answers

@@ -124,7 +124,7 @@ left-none n p e = let l = ltb-false 0 n e in le-ltb 0 (n - p) (omega arith)
 abbrev pub tooMuch : TxBuf → StreamAnswers → Bool
 tooMuch b a = usesFirst b && ltb (firstLength b) (counted (a .first)) || usesSecond b a && ltb (secondLength b) (counted (a .second))
 
-too-much-means : (b : TxBuf) (a : StreamAnswers) → Exactly (tooMuch b a ≡ true) (CountsTooMuch b a)
+pub too-much-means : (b : TxBuf) (a : StreamAnswers) → Exactly (tooMuch b a ≡ true) (CountsTooMuch b a)
 too-much-means b a =
     or-means (and-means (as-is (usesFirst b)) (below-means (firstLength b) (counted (a .first))))
     (and-means (as-is (usesSecond b a)) (below-means (secondLength b) (counted (a .second))))

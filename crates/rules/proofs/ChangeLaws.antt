@@ -59,7 +59,7 @@ use Rattle.rules.specs.declared.plan.SendPlan.{SendPlan}
 use Rattle.rules.proofs.RecordLaws.{sound-over-ring}
 use Rattle.rules.proofs.AnswerLaws.{notify-told}
 use Rattle.rules.proofs.SendLaws.{passed}
-use Rattle.rules.proofs.OutcomeLaws.{every-turn-leaves, send-number, done-left, goes, plan-len, plan-written, kills-now, stays-out, rule-data}
+use Rattle.rules.proofs.CallLaws.{every-turn-leaves, send-number, done-left, goes, plan-len, plan-written, kills-now, stays-out, rule-data}
 
 -- ---- tables
 
