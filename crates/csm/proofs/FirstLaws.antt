@@ -17,6 +17,8 @@ use Rattle.csm.specs.Row.{rowOf}
 use Rattle.csm.specs.Said.{Turn, answerOf, DataFirst, Reads, UpdateNext, NothingToSay, BufferMissing}
 use Rattle.csm.specs.Promises.{TurnAnswers, LastToldMoves}
 use Rattle.csm.specs.declared.turn.RxStep.the-variants.{Rst, Response, Request, Data, Close}
+use Rattle.csm.specs.declared.pending.PendingRxSet.{PendingRxSet}
+use Rattle.csm.specs.declared.state.ConnState.{ConnState}
 use Rattle.csm.proofs.MeansLaws.{every-state-means}
 use Rattle.csm.proofs.TurnLaws.{turn-number}
 
@@ -103,3 +105,24 @@ last-told-moves t =
     (or-means (and-means (reads-means t) (not-means (blocks-means (t .answer)))) (and-means (update-means t) (as-is (t .pending .«credit_update»)))) in
     let e = by-tells (t .pending .rst) (t .pending .response) (t .pending .request) (t .pending .rw) (gives (t .state)) (t .noCredit) (t .present) (t .pending .«credit_update») (t .answer) in
     (λ p. m .0 (sym e ∙ p), λ q. e ∙ m .1 q)
+
+-- ---- a turn that does not read
+
+unread : (r s q w up noCredit present u : Bool) (a b : ReadAnswer) → not r && not s && not q && w && up && not noCredit && present ≡ false
+    → when r Rst (when s Response (when q Request (when w (dataStep up noCredit present (readStep a (updateStep u))) (updateStep u))))
+    ≡ when r Rst (when s Response (when q Request (when w (dataStep up noCredit present (readStep b (updateStep u))) (updateStep u))))
+unfolding when
+unread true s q w up noCredit present u a b e = refl
+unread false true q w up noCredit present u a b e = refl
+unread false false true w up noCredit present u a b e = refl
+unread false false false false up noCredit present u a b e = refl
+unread false false false true false noCredit present u a b e = refl
+unread false false false true true true present u a b e = refl
+unread false false false true true false false u a b e = refl
+unread false false false true true false true u a b e = absurd (never (sym e))
+
+-- says the same whatever the stream answers
+pub step-unread : (p : PendingRxSet) (s : ConnState) (noCredit present : Bool) (a b : ReadAnswer) → turnReads p s noCredit present ≡ false
+    → turnStep p s noCredit present a ≡ turnStep p s noCredit present b
+unfolding turnStep turnReads
+step-unread p s noCredit present a b e = unread (p .rst) (p .response) (p .request) (p .rw) (gives s) noCredit present (p .«credit_update») a b e

@@ -52,7 +52,7 @@ use Rattle.rules.proofs.RecordLaws.{sound-over-ring}
 
 -- ---- soundness
 
-settings-mean : (size : ℕ) (g : Settings) → Exactly (isRingSize size && okSettings g size ≡ true) (InRange size g)
+pub settings-mean : (size : ℕ) (g : Settings) → Exactly (isRingSize size && okSettings g size ≡ true) (InRange size g)
 unfolding okSettings
 settings-mean size g =
     in-words
@@ -97,7 +97,7 @@ too-long-means : (present : Bool) (buf : ℕ) (hdr : List ℕ) → Exactly (pres
 too-long-means present buf hdr =
     and-means (as-is present) (or-means (packet-over buf) (and-means (equal-means (decoded hdr .op) opRw) (below-means buf (decoded hdr .len))))
 
-writes-means : (i : SendIn) → Exactly (writesOf (i .conn) (pktOf i .op) (i .present) ≡ true) (Writes i)
+pub writes-means : (i : SendIn) → Exactly (writesOf (i .conn) (pktOf i .op) (i .present) ≡ true) (Writes i)
 unfolding goesOf quiet
 writes-means i =
     in-words
@@ -198,7 +198,7 @@ pub notify-told : (i : NotifyIn) → notifyOf i .answer ≡ told (notifyAnswer i
 unfolding notifyOf notifyDone notifyKept
 notify-told i = answer-told (λ (o : NotifyLeft). o .answer) (notifyAnswer i) (notifyDone i) (notifyKept i) refl refl
 
-due-means : (i : NotifyIn) → Exactly (due i ≡ true) (Flushes i)
+pub due-means : (i : NotifyIn) → Exactly (due i ≡ true) (Flushes i)
 unfolding quiet
 due-means i = and-means (as-is (i .writable)) (some-means (usedOf (i .conn .«tx_buf»)))
 

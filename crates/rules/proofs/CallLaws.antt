@@ -68,7 +68,7 @@ said-passes Update r = zero-passes r
 said-passes Nothing r = omega (arith, r .1)
 
 -- where one field alone depends on the answer
-field-kept : {A : Type 0} (a : Answer) (x y : A) → Refuses (told a) → whenDone a x y ≡ y
+pub field-kept : {A : Type 0} (a : Answer) (x y : A) → Refuses (told a) → whenDone a x y ≡ y
 field-kept a x y r =
     ⊎-elim
     (λ (t : isDone a ≡ true). let z : told a .number ≡ 0 = ap (λ (b : Answer). told b .number) (is-done a t) in absurd (omega (arith, r .0)))
@@ -266,16 +266,20 @@ not-zero zero e = absurd (e refl)
 not-zero (suc n) e = omega arith
 
 -- so what isn't refused is done, said or lacks its buffer
-turn-done : (i : RecvIn) (o : RecvLeft) → o ≡ recvOf i → (Refuses (o .answer) → ⊥) → o ≡ recvDone i
+pub not-refused : (i : RecvIn) (o : RecvLeft) → o ≡ recvOf i → (Refuses (o .answer) → ⊥) → refusalOf i ≡ Done
 unfolding recvOf recvKept recvRefusal recvDoor
-turn-done i o says k =
+not-refused i o says k =
     ⊎-elim
-    (λ (t : isDone (refusalOf i) ≡ true). says ∙ when-done (refusalOf i) _ _ (is-done _ t))
+    (λ (t : isDone (refusalOf i) ≡ true). is-done _ t)
     (λ (t : isDone (refusalOf i) ≡ false).
     let z : o .answer ≡ told (refusalOf i) = ap (λ (x : RecvLeft). x .answer) (says ∙ when-not-done (refusalOf i) _ _ t) in
     absurd
     (k (rw z (not-zero _ (λ e. never (sym t ∙ ap isDone (number-zero (refusalOf i) e) ∙ done-is-done)), refusal-small _ _ _ _ _ _))))
     (true-or-false (isDone (refusalOf i)))
+
+turn-done : (i : RecvIn) (o : RecvLeft) → o ≡ recvOf i → (Refuses (o .answer) → ⊥) → o ≡ recvDone i
+unfolding recvOf
+turn-done i o says k = says ∙ when-done (refusalOf i) _ _ (not-refused i o says k)
 
 pub every-turn-leaves : EveryTurnLeaves
 unfolding recvDone receivedOf spokenOf headerOf creditOf

@@ -10,9 +10,11 @@ use lib.Dec.{ltb, leb, eqb}
 use lib.ListN.{length, take, drop, length-drop}
 use lib.Seq.{length-take-le}
 use borrow.Author.Tests.{ltb-false, eqb-true, ne-eqb, le-leb, not-true, not-false}
-use Rattle.defs.specs.Answer.{Told, told, isDone}
-use Rattle.defs.specs.Promises.{rowAt, FirstInTurn}
-use Rattle.defs.specs.Stream.{counted, failed, stops}
+use Rattle.defs.specs.Answer.{Told, told, isDone, whenDone}
+use Rattle.defs.specs.Promises.{rowAt, FirstInTurn, Refuses}
+use Rattle.defs.specs.Ladder.{doorOf, lateOf, lowestOf}
+use Rattle.defs.specs.Stream.{counted, failed, stops, stoppedBy}
+use Rattle.defs.specs.declared.answer.Answer.{Answer}
 use Rattle.defs.specs.declared.stream.StreamAnswer.{StreamAnswer}
 use Rattle.defs.specs.declared.stream.StreamAnswer.the-variants.{Count, WouldBlock, Failed}
 use Rattle.defs.specs.Choice.{when}
@@ -20,7 +22,7 @@ use Rattle.defs.specs.Credit.{peerNeedsCreditUpdate}
 use Rattle.defs.specs.Wrapping.{wadd, wsub}
 use Rattle.defs.specs.declared.answer.Answer.the-variants.{Done}
 use Rattle.defs.proofs.Basics.{never, both, neither, true-or-false, and-false, or-true, or-false}
-use Rattle.defs.proofs.AnswerLaws.{done-is-done, number-zero, is-done, when-done, when-not-done, when-done-holds, left-done}
+use Rattle.defs.proofs.AnswerLaws.{done-is-done, number-zero, is-done, when-done, when-not-done, when-done-holds, left-done, left-where}
 use Rattle.defs.proofs.LadderLaws.{lowest-passed, record-passed}
 use Rattle.defs.proofs.ChoiceLaws.{when-true, when-false, when-holds}
 use Rattle.packet.specs.Header.{decoded}
@@ -34,6 +36,7 @@ use Rattle.txbuf.specs.Answers.{flushRows}
 use Rattle.txbuf.proofs.RingLaws.{two-runs}
 use Rattle.txbuf.proofs.AnswerLaws.{count-is, flush-answers}
 use Rattle.txbuf.proofs.RecordLaws.{sound-says}
+use Rattle.txbuf.proofs.FlushLaws.{count-small}
 use Rattle.txbuf.proofs.Promises.{flush-takes-oldest}
 use Rattle.txbuf.specs.declared.record.TxBuf.{TxBuf}
 use Rattle.csm.specs.State.{isLocalInit, isEstablished, recvOff, sendOff, shutBy, bothOff, asks}
@@ -48,18 +51,20 @@ use Rattle.csm.specs.declared.timer.Timer.{Timer}
 use Rattle.csm.specs.declared.timer.Timer.the-variants.{Unset}
 use Rattle.rules.specs.Notify.{NotifyIn, NotifyLeft, seenOf, settledOf, drainedOf, absorbed, due, flushIn, flushed, notifyDoor, notifyAnswer, notifyDone, notifyKept, notifyOf}
 use Rattle.rules.specs.Record.{peerOf, sentOf, regrouped, quiet, withState, killedOf}
-use Rattle.rules.specs.Open.{ConnLeft}
+use Rattle.rules.specs.Open.{Opening, ConnLeft, freshOf, zeroConn, openAnswer, peerInitOf, localInitOf}
+use Rattle.rules.specs.Raw.{RawLeft, rawDoor, rawAnswer, rawDone, rawKept, rawOf}
 use Rattle.rules.specs.Look.{lookAnswer, killOf}
 use Rattle.rules.specs.Send.{heardOf, movedOf, updatedOf, onResponse, onShutdown, onCreditRequest, onData, ruleOf, planOf, SendIn, SendLeft, sendPlan, sendAnswer, sendKills, sendCarried, sendDone, sendKept, sendOf, carried}
 use Rattle.rules.specs.Moves.{Numbers}
 use Rattle.rules.specs.Outcomes.{meetsData, writesNow, takenNow, killsNow, fallsShort}
-use Rattle.rules.specs.Leaves.{pushedOn, takenOff, shutsReceive, shutsSend, closedBy, closedNow, confirmed, dataKills, dataStays, stateNow, cleared, isOpen, lingersNow, timerNow, flushesNow, flushFails, flushEnds, SendLeaves, NotifyLeaves, EveryNotifyLeaves, EverySendLeaves, TimersArm, LastToldMoves}
+use Rattle.rules.specs.Common.{TimersArm, LastToldMoves}
+use Rattle.rules.specs.Leaves.{pushedOn, takenOff, shutsReceive, shutsSend, closedBy, closedNow, confirmed, dataKills, dataStays, stateNow, cleared, isOpen, lingersNow, timerNow, flushesNow, flushFails, flushEnds, SendLeaves, NotifyLeaves, EveryNotifyLeaves, Opened, OpeningMeans, AllZero, RefusedIsZero, EveryRawLeaves, EverySendLeaves}
 use Rattle.rules.specs.declared.record.VsockConnection.{VsockConnection}
 use Rattle.rules.specs.declared.plan.SendPlan.{SendPlan}
 use Rattle.rules.proofs.RecordLaws.{sound-over-ring}
 use Rattle.rules.proofs.AnswerLaws.{notify-told}
 use Rattle.rules.proofs.SendLaws.{passed}
-use Rattle.rules.proofs.CallLaws.{every-turn-leaves, send-number, done-left, goes, plan-len, plan-written, kills-now, stays-out, rule-data}
+use Rattle.rules.proofs.CallLaws.{field-kept, every-turn-leaves, send-number, done-left, goes, plan-len, plan-written, kills-now, stays-out, rule-data}
 
 -- ---- tables
 
@@ -454,7 +459,7 @@ module _ (i : SendIn) where
       (true-or-false (dataStays i))
 
 -- a packet that is done
-sent-done : (i : SendIn) (o : SendLeft) → o ≡ sendOf i → o .answer .number ≡ 0 → sendAnswer i ≡ Done
+pub sent-done : (i : SendIn) (o : SendLeft) → o ≡ sendOf i → o .answer .number ≡ 0 → sendAnswer i ≡ Done
 sent-done i o says n = number-zero (sendAnswer i) (ap (λ (t : Told). t .number) (sym (send-number i o says)) ∙ n)
 
 leaves : (i : SendIn) (d : VsockConnection) (o : SendLeft) → Shape i d → o .conn ≡ d
@@ -604,6 +609,10 @@ module _ (i : NotifyIn) where
       unfolding notifyAnswer
       left = flush-left w sound (sym (when-true _ _ (due i) (due-now ∙ f)) ∙ lowest-passed _ _ d .1)
 
+      -- no more is taken than is held
+      pub within : total ≤ usedOf ring
+      within = let c = left .count in let l = count-small (flushIn i) (flushed i) refl in omega arith
+
       abbrev count : ℕ
       count = wadd (i .conn .«fwd_cnt») total
 
@@ -684,12 +693,105 @@ module _ (i : NotifyIn) where
         (idle-out f ∙ sym (when-false _ _ _ f)))
         (true-or-false (flushesNow i))
 
+pub notified-done : (i : NotifyIn) (o : NotifyLeft) → o ≡ notifyOf i → o .answer .number ≡ 0 → notifyAnswer i ≡ Done
+notified-done i o says n =
+    number-zero (notifyAnswer i) (ap (λ (t : Told). t .number) (sym (notify-told i)) ∙ ap (λ (x : NotifyLeft). x .answer .number) (sym says) ∙ n)
+
 pub every-notify-leaves : EveryNotifyLeaves
 unfolding notifyOf notifyKept
 every-notify-leaves i o w says n =
     let z : o ≡ notifyDone i = left-done (λ (x : NotifyLeft). x .answer) (notifyAnswer i) (notifyDone i) (notifyKept i) o refl says n in
-    let d : notifyAnswer i ≡ Done = number-zero (notifyAnswer i) (ap (λ (t : Told). t .number) (sym (notify-told i)) ∙ ap (λ (x : NotifyLeft). x .answer .number) (sym says) ∙ n) in
+    let d : notifyAnswer i ≡ Done = notified-done i o says n in
     subst (NotifyLeaves i) (sym z) (event-leaves i w d)
+
+-- ---- openings
+
+fresh-opened : (o : Opening) (state : ConnState) (request response : Bool)
+    → Opened o (freshOf o state (record { request = request; response = response; rst = false; rw = false; «credit_update» = false }))
+unfolding freshOf
+fresh-opened o state request response = record {
+  settings = refl;
+  cids = (refl, refl);
+  ports = (refl, refl);
+  ring = (refl, refl);
+  counts = (refl, refl, refl, refl);
+  expiry = refl;
+  quiet = (refl, refl, refl);
+}
+
+-- a record that is made where the answer passes
+pub made-done : (a : Answer) (x y : VsockConnection) (left : ConnLeft) → left ≡ record { answer = told a; conn = whenDone a x y } → left .answer .number ≡ 0 → left .conn ≡ x
+made-done a x y left says n = ap (λ (l : ConnLeft). l .conn) says ∙ when-done a x y (number-zero a (ap (λ (l : ConnLeft). l .answer .number) (sym says) ∙ n))
+
+made-refused : (a : Answer) (x y : VsockConnection) (left : ConnLeft) → left ≡ record { answer = told a; conn = whenDone a x y } → Refuses (left .answer) → left .conn ≡ y
+made-refused a x y left says r =
+    ap (λ (l : ConnLeft). l .conn) says ∙ field-kept a x y (subst Refuses (ap (λ (l : ConnLeft). l .answer) says) r)
+
+pub opening-means : OpeningMeans
+unfolding peerInitOf localInitOf freshOf
+opening-means = record {
+  peer = λ o left says n.
+      let z = made-done (openAnswer (o .size) (o .settings)) _ _ left says n in (
+        subst (Opened o) (sym z) (fresh-opened o PeerInit false true),
+        ap (λ (c : VsockConnection). c .state) z,
+        ap (λ (c : VsockConnection). c .«peer_buf_alloc») z,
+        ap (λ (c : VsockConnection). c .«pending_rx» .response) z,
+        ap (λ (c : VsockConnection). c .«pending_rx» .request) z,
+      );
+  local = λ o left says n.
+      let z = made-done (openAnswer (o .size) (o .settings)) _ _ left says n in (
+        subst (Opened o) (sym z) (record { settings = refl; cids = (refl, refl); ports = (refl, refl); ring = (refl, refl); counts = (refl, refl, refl, refl); expiry = refl; quiet = (refl, refl, refl) }),
+        ap (λ (c : VsockConnection). c .state) z,
+        ap (λ (c : VsockConnection). c .«peer_buf_alloc») z,
+        ap (λ (c : VsockConnection). c .«pending_rx» .response) z,
+        ap (λ (c : VsockConnection). c .«pending_rx» .request) z,
+      );
+}
+
+all-zero : AllZero zeroConn
+unfolding zeroConn freshOf
+all-zero = record {
+  settings = (refl, refl, refl);
+  addresses = (refl, refl, refl, refl);
+  ring = (refl, refl, refl);
+  counts = (refl, refl, refl, refl, refl);
+  phase = (refl, refl, refl);
+}
+
+pub refused-is-zero : RefusedIsZero
+unfolding peerInitOf localInitOf
+refused-is-zero = record {
+  peer = λ o left says r. subst AllZero (sym (made-refused (openAnswer (o .size) (o .settings)) _ _ left says r)) all-zero;
+  local = λ o left says r. subst AllZero (sym (made-refused (openAnswer (o .size) (o .settings)) _ _ left says r)) all-zero;
+}
+
+-- ---- the raw send
+
+stopped-kind : (r h c l a m : Bool) (s : StreamAnswer) → told (lowestOf (lowestOf (doorOf r h c l) (lateOf a m)) (stoppedBy s)) .number ≡ 10
+    → told (lowestOf (lowestOf (doorOf r h c l) (lateOf a m)) (stoppedBy s)) .failed ≡ failed s
+unfolding lowestOf doorOf lateOf whenDone isDone when
+stopped-kind true h c l a m s n = absurd (omega arith)
+stopped-kind false true c l a m s n = absurd (omega arith)
+stopped-kind false false true l a m s n = absurd (omega arith)
+stopped-kind false false false true a m s n = absurd (omega arith)
+stopped-kind false false false false true m s n = absurd (omega arith)
+stopped-kind false false false false false true s n = absurd (omega arith)
+stopped-kind false false false false false false (Count k) n = absurd (omega arith)
+stopped-kind false false false false false false WouldBlock n = refl
+stopped-kind false false false false false false Failed n = refl
+
+pub every-raw-leaves : EveryRawLeaves
+unfolding rawOf rawDone rawKept rawAnswer rawDoor
+every-raw-leaves i o says = record {
+  count = λ n. ap (λ (x : RawLeft). x .count) (left-done (λ (x : RawLeft). x .answer) (rawAnswer i) (rawDone i) (rawKept i) o refl says n);
+  out = λ n. ap (λ (x : RawLeft). x .out) (left-done (λ (x : RawLeft). x .answer) (rawAnswer i) (rawDone i) (rawKept i) o refl says n);
+  stopped = λ n.
+      let z = left-where (λ (t : Told). t .number ≡ 10) (λ (x : RawLeft). x .answer) (rawAnswer i) (rawDone i) (rawKept i) o (λ (e : _≡_ {A = ℕ} 0 10). omega arith) says n in (
+        ap (λ (x : RawLeft). x .count) z,
+        ap (λ (x : RawLeft). x .out) z,
+        ap (λ (x : RawLeft). x .answer .failed) z ∙ stopped-kind _ false false _ _ _ (i .answers .first) (ap (λ (x : RawLeft). x .answer .number) (sym z) ∙ n),
+      );
+}
 
 -- ---- timers, and what the guest was told
 

@@ -5,6 +5,7 @@ pub mod SendLaws
 pub mod AnswerLaws
 pub mod CallLaws
 pub mod ChangeLaws
+pub mod CommonLaws
 pub mod OfferLaws
 pub mod MovesLaws
 pub mod RunLaws

@@ -2,7 +2,8 @@
 use Rattle.rules.specs.Promises.{SendMoves, NotifyMoves, SendCountedOff, NotifyCountedOff, NotifyOffersPieces, ReadWithinAsked, ReceiveKeeps, KillKeeps, EdgesHold}
 use Rattle.rules.specs.Answers.{SoundMeans, OpenAnswers, LookAnswers, DoorAnswers, SendAnswers, RecvAnswers, NotifyAnswers, RawAnswers}
 use Rattle.rules.specs.Outcomes.{RefusalsChangeNothing, EverySendHears, EverySendAccepts, UpdateIsDue, EveryTurnLeaves, HeaderTells, SevenAndEightLeave, EveryKillKills, EveryPollPolls, ExpiryMeans}
-use Rattle.rules.specs.Leaves.{EverySendLeaves, EveryNotifyLeaves, TimersArm, LastToldMoves}
+use Rattle.rules.specs.Leaves.{EverySendLeaves, EveryNotifyLeaves, OpeningMeans, RefusedIsZero, EveryRawLeaves}
+use Rattle.rules.specs.Common.{TimersArm, LastToldMoves, UnreachedIsIgnored, SoundStaysSound, DataFitsPeer}
 use Rattle.rules.specs.Runs.{EveryRunForwards, CutsDoNotMatter, FlagsOnlyGrow, Drains}
 use Rattle.rules.specs.Stories.{StoriesHold}
 use Rattle.rules.proofs.Edges as edges
@@ -10,6 +11,7 @@ use Rattle.rules.proofs.AnswerLaws as answers
 use Rattle.rules.proofs.MovesLaws as moves
 use Rattle.rules.proofs.CallLaws as outcomes
 use Rattle.rules.proofs.ChangeLaws as leaves
+use Rattle.rules.proofs.CommonLaws as common
 use Rattle.rules.proofs.RunLaws as forwarding
 use Rattle.rules.proofs.FlagLaws as flags
 use Rattle.rules.proofs.DrainLaws as draining
@@ -99,6 +101,24 @@ every-send-leaves = leaves.every-send-leaves
 
 pub every-notify-leaves : EveryNotifyLeaves
 every-notify-leaves = leaves.every-notify-leaves
+
+pub opening-means : OpeningMeans
+opening-means = leaves.opening-means
+
+pub refused-is-zero : RefusedIsZero
+refused-is-zero = leaves.refused-is-zero
+
+pub every-raw-leaves : EveryRawLeaves
+every-raw-leaves = leaves.every-raw-leaves
+
+pub unreached-is-ignored : UnreachedIsIgnored
+unreached-is-ignored = common.unreached-is-ignored
+
+pub sound-stays-sound : SoundStaysSound
+sound-stays-sound = common.sound-stays-sound
+
+pub data-fits-peer : DataFitsPeer
+data-fits-peer = common.data-fits-peer
 
 pub timers-arm : TimersArm
 timers-arm = leaves.timers-arm

@@ -1,34 +1,33 @@
--- What a packet and an event leave, whole, said a second time: each field of the record and every lent byte, in 01's words (`send_pkt`, `notify`), apart from
--- the rules that the code follows. Assumes nothing.
+-- What a packet, an event, an opening and a raw send leave, whole, said a second time: each field of the record and every lent byte, in 01's words, apart
+-- from the rules that the code follows. Assumes nothing.
 use Prim.Native.Nat.{ℕ, _+_, _-_, _/_, _%_}
 use mathlib.Core.Path.{_≡_}
 use mathlib.Core.Bool.{Bool, true, false, not, _&&_, _||_}
-use mathlib.Core.List.{List, _++_}
+use mathlib.Core.List.{List, [], _++_}
 use lib.Dec.{leb, eqb}
 use lib.ListN.{take, drop}
 use Rattle.defs.specs.Choice.{when}
 use Rattle.defs.specs.Promises.{Refuses}
-use Rattle.defs.specs.Stream.{failed}
+use Rattle.defs.specs.Stream.{counted, failed}
 use Rattle.defs.specs.Wrapping.{wadd}
 use Rattle.packet.specs.Header.{decoded}
-use Rattle.packet.specs.Uapi.{opRequest, opResponse, opShutdown, opCreditRequest}
+use Rattle.packet.specs.Uapi.{opResponse, opShutdown, opCreditRequest}
 use Rattle.txbuf.specs.Record.{usedOf, held}
 use Rattle.txbuf.specs.Push.{written}
 use Rattle.txbuf.specs.Means.{countedNow}
 use Rattle.txbuf.specs.declared.record.TxBuf.{TxBuf}
 use Rattle.csm.specs.Means.{shutBoth, answersRequest}
-use Rattle.csm.specs.Said.{opDue, tellsNow}
+use Rattle.csm.specs.Pending.{none}
 use Rattle.csm.specs.declared.state.ConnState.{ConnState}
 use Rattle.csm.specs.declared.state.ConnState.the-variants.{LocalInit, PeerInit, Established, LocalClosed, PeerClosed, Killed}
 use Rattle.csm.specs.declared.timer.Timer.{Timer}
 use Rattle.csm.specs.declared.timer.Timer.the-variants.{Unset, At}
-use Rattle.rules.specs.Open.{ConnLeft}
-use Rattle.rules.specs.Look.{KillSays}
-use Rattle.rules.specs.Receive.{RecvIn, RecvLeft, RecvSays}
+use Rattle.rules.specs.Open.{Opening, ConnLeft, PeerInitSays, LocalInitSays}
+use Rattle.rules.specs.Raw.{RawIn, RawLeft, RawSays}
 use Rattle.rules.specs.Send.{SendIn, SendLeft, SendSays}
 use Rattle.rules.specs.Notify.{NotifyIn, NotifyLeft, NotifySays}
 use Rattle.rules.specs.Moves.{Numbers}
-use Rattle.rules.specs.Outcomes.{meetsData, takenNow, killsNow, fallsShort, turnOf}
+use Rattle.rules.specs.Outcomes.{meetsData, takenNow, killsNow, acceptedNow, fallsShort}
 use Rattle.rules.specs.declared.record.VsockConnection.{VsockConnection}
 
 -- settings and addresses never move
@@ -156,7 +155,62 @@ pub record NotifyLeaves (i : NotifyIn) (o : NotifyLeft) : Type 0 where
 abbrev pub EveryNotifyLeaves : Type 0
 EveryNotifyLeaves = (i : NotifyIn) (o : NotifyLeft) → Numbers (i .conn) → NotifySays i o → o .answer .number ≡ 0 → NotifyLeaves i o
 
--- ---- timers, and what the guest was told
+-- ---- an opening
+
+-- an empty ring of the given size, every count 0, no timer, and one indication pending, RESPONSE or REQUEST
+pub record Opened (o : Opening) (c : VsockConnection) : Type 0 where
+  pub settings : c .settings ≡ o .settings
+  pub cids : (c .«local_cid» ≡ o .«local_cid») × (c .«peer_cid» ≡ o .«peer_cid»)
+  pub ports : (c .«local_port» ≡ o .«local_port») × (c .«peer_port» ≡ o .«peer_port»)
+  pub ring : (c .«tx_buf» .size ≡ o .size) × (usedOf (c .«tx_buf») ≡ 0)
+  pub counts : (c .«fwd_cnt» ≡ 0) × (c .«rx_cnt» ≡ 0) × (c .«peer_fwd_cnt» ≡ 0) × (c .«last_fwd_cnt_to_peer» ≡ 0)
+  pub expiry : c .expiry ≡ Unset
+  pub quiet : (c .«pending_rx» .rst ≡ false) × (c .«pending_rx» .rw ≡ false) × (c .«pending_rx» .«credit_update» ≡ false)
+
+-- by the guest: PeerInit, Response pending, the given space. By the host: LocalInit, Request pending, space 0
+pub record OpeningMeans : Type 0 where
+  pub peer : (o : Opening) (left : ConnLeft) → PeerInitSays o left → left .answer .number ≡ 0
+      → Opened o (left .conn) × (left .conn .state ≡ PeerInit) × (left .conn .«peer_buf_alloc» ≡ o .alloc)
+      × (left .conn .«pending_rx» .response ≡ true) × (left .conn .«pending_rx» .request ≡ false)
+  pub local : (o : Opening) (left : ConnLeft) → LocalInitSays o left → left .answer .number ≡ 0
+      → Opened o (left .conn) × (left .conn .state ≡ LocalInit) × (left .conn .«peer_buf_alloc» ≡ 0)
+      × (left .conn .«pending_rx» .response ≡ false) × (left .conn .«pending_rx» .request ≡ true)
+
+-- 01: a refused opening gives the all-zero record (LocalInit, no timer)
+pub record AllZero (c : VsockConnection) : Type 0 where
+  pub settings : (c .settings .threshold ≡ 0) × (c .settings .«request_timeout» ≡ 0) × (c .settings .«shutdown_timeout» ≡ 0)
+  pub addresses : (c .«local_cid» ≡ 0) × (c .«peer_cid» ≡ 0) × (c .«local_port» ≡ 0) × (c .«peer_port» ≡ 0)
+  pub ring : (c .«tx_buf» .size ≡ 0) × (c .«tx_buf» .head ≡ 0) × (c .«tx_buf» .tail ≡ 0)
+  pub counts : (c .«fwd_cnt» ≡ 0) × (c .«rx_cnt» ≡ 0) × (c .«peer_buf_alloc» ≡ 0) × (c .«peer_fwd_cnt» ≡ 0) × (c .«last_fwd_cnt_to_peer» ≡ 0)
+  pub phase : (c .state ≡ LocalInit) × (c .expiry ≡ Unset) × (c .«pending_rx» ≡ none)
+
+pub record RefusedIsZero : Type 0 where
+  pub peer : (o : Opening) (left : ConnLeft) → PeerInitSays o left → Refuses (left .answer) → AllZero (left .conn)
+  pub local : (o : Opening) (left : ConnLeft) → LocalInitSays o left → Refuses (left .answer) → AllZero (left .conn)
+
+-- ---- the raw send
+
+-- what its one write counts stands at the front of the outgoing buffer, the rest of which stays; blocked or failed, it changes nothing
+pub record RawLeaves (i : RawIn) (o : RawLeft) : Type 0 where
+  pub count : o .answer .number ≡ 0 → o .count ≡ counted (i .answers .first)
+  pub out : o .answer .number ≡ 0 → o .out ≡ take (counted (i .answers .first)) (i .buf) ++ drop (counted (i .answers .first)) (i .out)
+  pub stopped : o .answer .number ≡ 10 → (o .count ≡ 0) × (o .out ≡ i .out) × (o .answer .failed ≡ failed (i .answers .first))
+
+abbrev pub EveryRawLeaves : Type 0
+EveryRawLeaves = (i : RawIn) (o : RawLeft) → RawSays i o → RawLeaves i o
+
+-- ---- what a call took and accepted, where it is done
+
+abbrev pub sendTook : SendIn → SendLeft → ℕ
+sendTook i o = when (eqb (o .answer .number) 0) (when (meetsData i) (takenNow i) 0) 0
+
+abbrev pub notifyTook : NotifyIn → NotifyLeft → ℕ
+notifyTook i o = when (eqb (o .answer .number) 0) (when (flushesNow i) (countedNow (i .conn .«tx_buf») (i .answers)) 0) 0
+
+abbrev pub sendAccepted : SendIn → SendLeft → List ℕ
+sendAccepted i o = when (eqb (o .answer .number) 0) (acceptedNow i) []
+
+-- ---- the timer after a packet
 
 -- RESPONSE in LocalInit clears the timer; a SHUTDOWN in Established that sets both flags while bytes are held sets it to now plus the shutdown timeout
 abbrev pub cleared : ConnState → Timer → Timer
@@ -182,22 +236,3 @@ abbrev pub timerNow : SendIn → Timer
 timerNow i =
     when (eqb (opOf i) opResponse) (cleared (i .conn .state) (i .conn .expiry))
     (when (eqb (opOf i) opShutdown && lingersNow i) (At (i .clock + i .conn .settings .«shutdown_timeout»)) (i .conn .expiry))
-
--- 01, timers: which calls set, clear or leave the timer. A turn to speak sets it to now plus the request timeout where it says REQUEST, to now plus the
--- shutdown timeout where it says SHUTDOWN
-pub record TimersArm : Type 0 where
-  pub send : (i : SendIn) (o : SendLeft) → SendSays i o → o .answer .number ≡ 0 → o .conn .expiry ≡ timerNow i
-  pub notify : (i : NotifyIn) (o : NotifyLeft) → NotifySays i o → o .conn .expiry ≡ i .conn .expiry
-  pub recv : (i : RecvIn) (o : RecvLeft) → RecvSays i o → (Refuses (o .answer) → ⊥)
-      → o .conn .expiry
-      ≡ when (eqb (opDue (turnOf i)) opRequest) (At (i .clock + i .conn .settings .«request_timeout»))
-      (when (eqb (opDue (turnOf i)) opShutdown) (At (i .clock + i .conn .settings .«shutdown_timeout»)) (i .conn .expiry))
-  pub kill : (c : VsockConnection) (o : ConnLeft) → KillSays c o → o .conn .expiry ≡ c .expiry
-
--- 01: last-told becomes fwd_cnt on credit request, data, shutdown, read failure and credit update, which only a turn to speak says (`tellsNow` of `csm`)
-pub record LastToldMoves : Type 0 where
-  pub send : (i : SendIn) (o : SendLeft) → SendSays i o → o .conn .«last_fwd_cnt_to_peer» ≡ i .conn .«last_fwd_cnt_to_peer»
-  pub notify : (i : NotifyIn) (o : NotifyLeft) → NotifySays i o → o .conn .«last_fwd_cnt_to_peer» ≡ i .conn .«last_fwd_cnt_to_peer»
-  pub recv : (i : RecvIn) (o : RecvLeft) → RecvSays i o → (Refuses (o .answer) → ⊥)
-      → o .conn .«last_fwd_cnt_to_peer» ≡ when (tellsNow (turnOf i)) (i .conn .«fwd_cnt») (i .conn .«last_fwd_cnt_to_peer»)
-  pub kill : (c : VsockConnection) (o : ConnLeft) → KillSays c o → o .conn .«last_fwd_cnt_to_peer» ≡ c .«last_fwd_cnt_to_peer»

@@ -6,11 +6,12 @@ pub mod Receive
 pub mod Send
 pub mod Notify
 pub mod Offer
-pub mod Answers
 pub mod Moves
+pub mod Outcomes
+pub mod Leaves
+pub mod Answers
+pub mod Common
 pub mod Runs
 pub mod Stories
 pub mod Edges
-pub mod Outcomes
-pub mod Leaves
 pub mod Promises

@@ -1,0 +1,215 @@
+-- What calls have in common: the promises of specs/Common but timers and last-told, which ChangeLaws has. Assumes nothing.
+use Prim.Native.Nat.{ℕ, _+_, _-_, _≤_}
+use mathlib.Core.Path.{_≡_, refl, sym, ap, subst, _∙_}
+use mathlib.Core.Logic.{⊎-elim}
+use mathlib.Core.Bool.{Bool, true, false, _&&_}
+use mathlib.Core.List.{List}
+use native.Mathlib.Omega.{arith}
+use lib.Dec.{eqb}
+use lib.ListN.{length}
+use borrow.Author.Tests.{ltb-false, not-true}
+use Rattle.defs.specs.Answer.{Told, told, isDone}
+use Rattle.defs.specs.Choice.{when}
+use Rattle.defs.specs.Stream.{failed, readCounted}
+use Rattle.defs.specs.Wrapping.{wadd, wsub}
+use Rattle.defs.specs.declared.answer.Answer.{Answer}
+use Rattle.defs.specs.declared.answer.Answer.the-variants.{Done}
+use Rattle.defs.specs.declared.stream.StreamAnswer.{StreamAnswer}
+use Rattle.defs.specs.declared.stream.StreamAnswers.{StreamAnswers}
+use Rattle.defs.specs.declared.stream.ReadAnswer.{ReadAnswer}
+use Rattle.defs.proofs.Basics.{true-or-false, both, neither}
+use Rattle.defs.proofs.AnswerLaws.{number-zero, is-done, when-not-done}
+use Rattle.defs.proofs.LadderLaws.{record-passed}
+use Rattle.defs.proofs.ChoiceLaws.{when-false, when-holds}
+use Rattle.defs.proofs.Promises.{told-tells-apart, credit-is-free-space}
+use Rattle.packet.specs.Header.{decoded}
+use Rattle.packet.specs.declared.hdr.VsockPacketHdr.{VsockPacketHdr}
+use Rattle.txbuf.specs.Flush.{FlushLeft, flushAnswer}
+use Rattle.txbuf.specs.Record.{usedOf}
+use Rattle.txbuf.specs.Means.{bytesHeld, usesSecond, countedNow}
+use Rattle.txbuf.specs.declared.record.TxBuf.{TxBuf}
+use Rattle.txbuf.proofs.RecordLaws.{used-after, used-advanced}
+use Rattle.txbuf.proofs.RingLaws.{written-length}
+use Rattle.txbuf.proofs.Promises.{unreached-is-ignored as ring-ignores}
+use Rattle.txbuf.proofs.AnswerLaws.{flush-told}
+use Rattle.csm.specs.Row.{rowOf}
+use Rattle.csm.specs.Said.{Said, saidNow}
+use Rattle.csm.specs.declared.turn.RxStep.{RxStep}
+use Rattle.csm.proofs.Promises.{says-what-was-read, says-first-pending}
+use Rattle.csm.proofs.FirstLaws.{reads-means, step-unread}
+use Rattle.rules.specs.Record.{creditOf}
+use Rattle.rules.specs.Raw.{rawAnswer, rawDone, rawKept, rawOf}
+use Rattle.rules.specs.Receive.{RecvIn, nextStep, readsOf, askedOf, recvRefusal, saidBy, recvDone, recvKept, recvOf}
+use Rattle.rules.specs.Send.{SendIn, SendLeft, planOf, writesOf, pktOf, sendAnswer, sendDone, sendKept, sendOf}
+use Rattle.rules.specs.Notify.{NotifyIn, NotifyLeft, due, flushIn, flushed, notifyAnswer, notifyDone, notifyKept, notifyOf}
+use Rattle.rules.specs.Outcomes.{meetsData, writesNow, takenNow, turnOf}
+use Rattle.rules.specs.Answers.{InRange, Sound, SoundOver}
+use Rattle.rules.specs.Moves.{Account, account, Numbers}
+use Rattle.rules.specs.Leaves.{dataStays, flushesNow, SendLeaves, NotifyLeaves}
+use Rattle.rules.specs.Common.{SoundStaysSound, sentWith, readWith, notifiedWith, withSecond, UnreachedIsIgnored, DataFitsPeer}
+use Rattle.rules.specs.Open.{ConnLeft, freshOf, openAnswer, peerInitOf, localInitOf}
+use Rattle.rules.specs.declared.record.Settings.{Settings}
+use Rattle.rules.specs.declared.record.VsockConnection.{VsockConnection}
+use Rattle.rules.proofs.AnswerLaws.{settings-mean, writes-means, due-means, notify-told}
+use Rattle.rules.proofs.CallLaws.{not-refused, send-number}
+use Rattle.rules.proofs.ChangeLaws.{made-done, within, every-send-leaves, every-notify-leaves}
+use Rattle.rules.proofs.MovesLaws.{receive-keeps, kill-keeps}
+use Rattle.rules.proofs.ReceiveLaws.{asked-at-most, passed}
+
+-- a test whose fact is not so does not hold
+unheld : (b : Bool) {P : Type 0} → (b ≡ true → P) → (P → ⊥) → b ≡ false
+unheld b f g = ⊎-elim (λ (t : b ≡ true). absurd (g (f t))) (λ (e : b ≡ false). e) (true-or-false b)
+
+-- ---- a packet: without a write its plan is the same whatever the stream answers
+
+plan-alike : (c : VsockConnection) (pkt : VsockPacketHdr) (present : Bool) (a b : StreamAnswer) → writesOf c (pkt .op) present ≡ false
+    → planOf c pkt present a ≡ planOf c pkt present b
+unfolding planOf when
+plan-alike c pkt present a b e = rw e
+
+send-alike : (i : SendIn) (a : StreamAnswers) → writesOf (i .conn) (pktOf i .op) (i .present) ≡ false → sendOf i ≡ sendOf (sentWith i a)
+unfolding sendOf sendDone sendKept sendAnswer
+send-alike i a e = rw (plan-alike (i .conn) (pktOf i) (i .present) (i .answers .first) (a .first) e)
+
+-- ---- an event
+
+notify-alike : (i : NotifyIn) (a : StreamAnswers) → due i ≡ false → notifyOf i ≡ notifyOf (notifiedWith i a)
+unfolding notifyOf notifyDone notifyKept notifyAnswer when
+notify-alike i a e = rw e
+
+-- the second answer, where the flush does not use it
+second-alike : (i : NotifyIn) (y : StreamAnswer) → usesSecond (i .conn .«tx_buf») (i .answers) ≡ false → notifyOf i ≡ notifyOf (notifiedWith i (withSecond (i .answers) y))
+unfolding notifyOf notifyDone notifyKept notifyAnswer
+second-alike i y u =
+    let j = notifiedWith i (withSecond (i .answers) y) in
+    let f : flushed i ≡ flushed j = ring-ignores .second (flushIn i) y (flushed i) (flushed j) refl refl u in
+    let a : flushAnswer (flushIn i) ≡ flushAnswer (flushIn j) =
+    told-tells-apart _ _ (sym (flush-told (flushIn i)) ∙ ap (λ (o : FlushLeft). o .answer) f ∙ flush-told (flushIn j)) in
+    rw (a, f)
+
+-- ---- a turn
+
+-- a turn that does not read says no data
+says-none : (i : RecvIn) → readsOf (i .conn) (i .present) ≡ false → saidBy i .count ≡ 0
+says-none i e =
+    let l = says-what-was-read (i .conn .«pending_rx») (i .conn .state) (eqb (creditOf (i .conn)) 0) (i .present) (i .answer) in
+    let z : when (readsOf (i .conn) (i .present)) (readCounted (i .answer)) 0 ≡ 0 = when-false _ _ _ e in
+    omega arith
+
+read-alike : (i : RecvIn) (a : ReadAnswer) (bytes : List ℕ) → readsOf (i .conn) (i .present) ≡ false → recvOf i ≡ recvOf (readWith i a bytes)
+unfolding recvOf recvDone recvKept recvRefusal
+read-alike i a bytes e =
+    let c = i .conn in
+    let n : nextStep c (i .present) (i .answer) ≡ nextStep c (i .present) a =
+    step-unread (c .«pending_rx») (c .state) (eqb (creditOf c) 0) (i .present) (i .answer) a e in
+    let z : rowOf (nextStep c (i .present) a) .count ≡ 0 = ap (λ (s : RxStep). rowOf s .count) (sym n) ∙ says-none i e in
+    rw (e, n, z)
+
+pub unreached-is-ignored : UnreachedIsIgnored
+unfolding sendOf sendAnswer sendDone sendKept rawOf rawAnswer rawDone rawKept creditOf
+unreached-is-ignored = record {
+  send = λ i a o other says said w. says ∙ send-alike i a (unheld _ (writes-means i .0) w) ∙ sym said;
+  send-second = λ i y o other says said. says ∙ sym said;
+  recv = λ i a bytes o other says said r. says ∙ read-alike i a bytes (unheld _ (reads-means (turnOf i) .0) r) ∙ sym said;
+  notify = λ i a o other says said w. says ∙ notify-alike i a (unheld _ (due-means i .0) w) ∙ sym said;
+  notify-second = λ i y o other says said u. says ∙ second-alike i y u ∙ sym said;
+  raw-second = λ i y o other says said. says ∙ sym said;
+}
+
+-- ---- the sender's duty
+
+pub data-fits-peer : DataFitsPeer
+unfolding creditOf
+data-fits-peer i o alloc sent fwd says k h l m ea es ef =
+    let d = not-refused i o says k in
+    let p = passed i d in
+    let n : saidNow (turnOf i) .len ≡ saidBy i .count = ap (λ (s : Said). s .len) (sym (says-first-pending (turnOf i))) in
+    let a = asked-at-most i d in
+    let credit : creditOf (i .conn) ≡ alloc - (sent - fwd) = rw (ea, es, ef) (credit-is-free-space alloc sent fwd h l m) in
+    let w : when (readsOf (i .conn) (i .present)) (askedOf (i .conn) (length (i .buf))) 0 ≤ creditOf (i .conn) =
+    when-holds (λ (x : ℕ). x ≤ creditOf (i .conn)) (readsOf (i .conn) (i .present)) _ _ (λ t. omega arith) (λ t. omega arith) in
+    record { free = omega arith; supplied = omega (arith, p .supplied); fits = omega (arith, p .in-buffer) }
+
+-- ---- soundness
+
+-- a record with the same settings and a ring of the same size that holds no more than it
+sound-again : (c d : VsockConnection) → d .settings ≡ c .settings → d .«tx_buf» .size ≡ c .«tx_buf» .size → bytesHeld (d .«tx_buf») ≤ c .«tx_buf» .size → Sound c → Sound d
+sound-again c d e f l s = record { settings = rw (e, f) (s .settings); held = rw f l }
+
+-- one with the same account
+sound-kept : (c d : VsockConnection) → account d ≡ account c → Sound c → Sound d
+unfolding account
+sound-kept c d e s =
+    let r : d .«tx_buf» ≡ c .«tx_buf» = ap (λ (a : Account). a .ring) e in
+    sound-again c d (ap (λ (a : Account). a .settings) e) (ap (λ (b : TxBuf). b .size) r) (rw r (s .held)) s
+
+sound-opened : (size : ℕ) (g : Settings) → openAnswer size g ≡ Done → InRange size g
+unfolding openAnswer
+sound-opened size g d = settings-mean size g .0 (record-passed _ _ refl d)
+
+-- a ring that holds no more than its size, of the same size
+abbrev Within : TxBuf → TxBuf → Type 0
+Within b r = (r .size ≡ b .size) × (bytesHeld r ≤ b .size)
+
+sound-sent : (i : SendIn) (o : SendLeft) → Numbers (i .conn) → SendLeaves i o → SoundOver (i .conn) (length (i .store)) → SoundOver (o .conn) (length (o .store))
+sound-sent i o w v s =
+    let b : TxBuf = i .conn .«tx_buf» in
+    let k : ℕ = decoded (i .hdr) .len - takenNow i in
+    let r : Within b (o .conn .«tx_buf») =
+    subst (Within b) (sym (v .ring))
+    (when-holds (Within b) (dataStays i) _ _
+    (λ t.
+    let f : usedOf b + k ≤ b .size = ltb-false (b .size) _ (neither (writesNow i && failed (i .answers .first)) _ (not-true _ (both (meetsData i) _ t .1)) .1) in
+    let m = s .0 .settings .most in
+    let u : wsub (wadd (b .head) k) (b .tail) ≡ wsub (b .head) (b .tail) + k = used-after (b .head) (b .tail) k (w .ring .head) (w .ring .tail) (omega arith) in
+    (refl, omega arith))
+    (λ t. (refl, s .0 .held))) in
+    let l : length (o .store) ≡ length (i .store) =
+    subst (λ (x : List ℕ). length x ≡ length (i .store)) (sym (v .store))
+    (when-holds (λ (x : List ℕ). length x ≡ length (i .store)) (dataStays i) _ _ (λ t. written-length (b .size) _ (i .store) (b .head)) (λ t. refl)) in
+    (sound-again (i .conn) (o .conn) (v .self .settings) (r .0) (r .1) (s .0), l ∙ s .1 ∙ sym (r .0))
+
+sound-notified : (i : NotifyIn) (o : NotifyLeft) → Numbers (i .conn) → notifyAnswer i ≡ Done → NotifyLeaves i o → SoundOver (i .conn) (length (i .store)) → SoundOver (o .conn) (length (i .store))
+sound-notified i o w d v s =
+    let b : TxBuf = i .conn .«tx_buf» in
+    let n : ℕ = countedNow b (i .answers) in
+    let r : Within b (o .conn .«tx_buf») =
+    subst (Within b) (sym (v .ring))
+    (when-holds (Within b) (flushesNow i) _ _
+    (λ t.
+    let l = within i w d t in
+    let h = s .0 .held in
+    let u : wsub (b .head) (wadd (b .tail) n) ≡ wsub (b .head) (b .tail) - n = used-advanced (b .head) (b .tail) n (w .ring .head) (w .ring .tail) l in
+    (refl, omega arith))
+    (λ t. (refl, s .0 .held))) in
+    (sound-again (i .conn) (o .conn) (v .self .settings) (r .0) (r .1) (s .0), s .1 ∙ sym (r .0))
+
+pub sound-stays-sound : SoundStaysSound
+unfolding peerInitOf localInitOf freshOf sendOf sendKept notifyOf notifyKept
+sound-stays-sound = record {
+  peer = λ o left says n.
+      let a = openAnswer (o .size) (o .settings) in
+      let d = number-zero a (ap (λ (x : ConnLeft). x .answer .number) (sym says) ∙ n) in
+      subst Sound (sym (made-done a _ _ left says n)) (record { settings = sound-opened (o .size) (o .settings) d; held = omega arith });
+  local = λ o left says n.
+      let a = openAnswer (o .size) (o .settings) in
+      let d = number-zero a (ap (λ (x : ConnLeft). x .answer .number) (sym says) ∙ n) in
+      subst Sound (sym (made-done a _ _ left says n)) (record { settings = sound-opened (o .size) (o .settings) d; held = omega arith });
+  send = λ i o w says s.
+      ⊎-elim
+      (λ (t : isDone (sendAnswer i) ≡ true).
+      let n : o .answer .number ≡ 0 = ap (λ (x : Told). x .number) (send-number i o says) ∙ ap (λ (a : Answer). told a .number) (is-done _ t) in
+      sound-sent i o w (every-send-leaves i o says n) s)
+      (λ (t : isDone (sendAnswer i) ≡ false). subst (λ (x : SendLeft). SoundOver (x .conn) (length (x .store))) (sym (says ∙ when-not-done (sendAnswer i) _ _ t)) s)
+      (true-or-false (isDone (sendAnswer i)));
+  recv = λ i o says s. sound-kept (i .conn) (o .conn) (receive-keeps i o says) s;
+  notify = λ i o w says s.
+      ⊎-elim
+      (λ (t : isDone (notifyAnswer i) ≡ true).
+      let d = is-done _ t in
+      let n : o .answer .number ≡ 0 = ap (λ (x : NotifyLeft). x .answer .number) says ∙ ap (λ (x : Told). x .number) (notify-told i) ∙ ap (λ (a : Answer). told a .number) d in
+      sound-notified i o w d (every-notify-leaves i o w says n) s)
+      (λ (t : isDone (notifyAnswer i) ≡ false). subst (λ (x : NotifyLeft). SoundOver (x .conn) (length (i .store))) (sym (says ∙ when-not-done (notifyAnswer i) _ _ t)) s)
+      (true-or-false (isDone (notifyAnswer i)));
+  kill = λ c o says s. sound-kept c (o .conn) (kill-keeps c o says) s;
+}

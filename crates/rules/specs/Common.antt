@@ -1,0 +1,104 @@
+-- What calls have in common, said over what they were given and what they left: timers, what the guest was told, answers that are not reached, soundness,
+-- and room at the guest. Assumes nothing.
+use Prim.Native.Nat.{ℕ, _+_, _-_, _%_, _^_, _<_, _≤_}
+use mathlib.Core.Path.{_≡_}
+use mathlib.Core.Bool.{false}
+use mathlib.Core.List.{List}
+use lib.Dec.{eqb}
+use lib.ListN.{length}
+use Rattle.defs.specs.Choice.{when}
+use Rattle.defs.specs.Promises.{Refuses}
+use Rattle.defs.specs.declared.stream.StreamAnswer.{StreamAnswer}
+use Rattle.defs.specs.declared.stream.StreamAnswers.{StreamAnswers}
+use Rattle.defs.specs.declared.stream.ReadAnswer.{ReadAnswer}
+use Rattle.packet.specs.Uapi.{opRequest, opShutdown}
+use Rattle.txbuf.specs.Means.{usesSecond}
+use Rattle.csm.specs.Said.{Reads, opDue, tellsNow, saidNow}
+use Rattle.csm.specs.declared.timer.Timer.the-variants.{At}
+use Rattle.rules.specs.Open.{Opening, ConnLeft, PeerInitSays, LocalInitSays}
+use Rattle.rules.specs.Look.{KillSays}
+use Rattle.rules.specs.Receive.{RecvIn, RecvLeft, RecvSays}
+use Rattle.rules.specs.Send.{SendIn, SendLeft, SendSays}
+use Rattle.rules.specs.Notify.{NotifyIn, NotifyLeft, NotifySays}
+use Rattle.rules.specs.Raw.{RawIn, RawLeft, RawSays}
+use Rattle.rules.specs.Moves.{Numbers}
+use Rattle.rules.specs.Outcomes.{turnOf}
+use Rattle.rules.specs.Leaves.{timerNow}
+use Rattle.rules.specs.Answers.{Sound, SoundOver, Writes, Flushes}
+use Rattle.rules.specs.declared.record.VsockConnection.{VsockConnection}
+
+-- ---- timers, and what the guest was told
+
+-- 01, timers: which calls set, clear or leave the timer. A turn to speak sets it to now plus the request timeout where it says REQUEST, to now plus the
+-- shutdown timeout where it says SHUTDOWN
+pub record TimersArm : Type 0 where
+  pub send : (i : SendIn) (o : SendLeft) → SendSays i o → o .answer .number ≡ 0 → o .conn .expiry ≡ timerNow i
+  pub notify : (i : NotifyIn) (o : NotifyLeft) → NotifySays i o → o .conn .expiry ≡ i .conn .expiry
+  pub recv : (i : RecvIn) (o : RecvLeft) → RecvSays i o → (Refuses (o .answer) → ⊥)
+      → o .conn .expiry
+      ≡ when (eqb (opDue (turnOf i)) opRequest) (At (i .clock + i .conn .settings .«request_timeout»))
+      (when (eqb (opDue (turnOf i)) opShutdown) (At (i .clock + i .conn .settings .«shutdown_timeout»)) (i .conn .expiry))
+  pub kill : (c : VsockConnection) (o : ConnLeft) → KillSays c o → o .conn .expiry ≡ c .expiry
+
+-- 01: last-told becomes fwd_cnt on credit request, data, shutdown, read failure and credit update, which only a turn to speak says (`tellsNow` of `csm`)
+pub record LastToldMoves : Type 0 where
+  pub send : (i : SendIn) (o : SendLeft) → SendSays i o → o .conn .«last_fwd_cnt_to_peer» ≡ i .conn .«last_fwd_cnt_to_peer»
+  pub notify : (i : NotifyIn) (o : NotifyLeft) → NotifySays i o → o .conn .«last_fwd_cnt_to_peer» ≡ i .conn .«last_fwd_cnt_to_peer»
+  pub recv : (i : RecvIn) (o : RecvLeft) → RecvSays i o → (Refuses (o .answer) → ⊥)
+      → o .conn .«last_fwd_cnt_to_peer» ≡ when (tellsNow (turnOf i)) (i .conn .«fwd_cnt») (i .conn .«last_fwd_cnt_to_peer»)
+  pub kill : (c : VsockConnection) (o : ConnLeft) → KillSays c o → o .conn .«last_fwd_cnt_to_peer» ≡ c .«last_fwd_cnt_to_peer»
+
+-- ---- answers that are not reached
+
+-- the same call with other answers of the stream
+abbrev pub sentWith : SendIn → StreamAnswers → SendIn
+sentWith i a = record { conn = i .conn; store = i .store; hdr = i .hdr; present = i .present; buf = i .buf; clock = i .clock; answers = a; out = i .out }
+
+abbrev pub readWith : RecvIn → ReadAnswer → List ℕ → RecvIn
+readWith i a bytes = record { conn = i .conn; hdr = i .hdr; present = i .present; buf = i .buf; clock = i .clock; answer = a; read = bytes }
+
+abbrev pub notifiedWith : NotifyIn → StreamAnswers → NotifyIn
+notifiedWith i a = record { conn = i .conn; readable = i .readable; writable = i .writable; store = i .store; answers = a; out = i .out }
+
+abbrev pub rawWith : RawIn → StreamAnswers → RawIn
+rawWith i a = record { conn = i .conn; buf = i .buf; answers = a; out = i .out }
+
+-- a second answer beside the same first
+abbrev pub withSecond : StreamAnswers → StreamAnswer → StreamAnswers
+withSecond a y = record { first = a .first; second = y }
+
+-- 01: an answer that isn't reached isn't looked at, whatever it counts and whatever bytes it brings
+pub record UnreachedIsIgnored : Type 0 where
+  pub send : (i : SendIn) (a : StreamAnswers) (o other : SendLeft) → SendSays i o → SendSays (sentWith i a) other → (Writes i → ⊥) → o ≡ other
+  pub send-second : (i : SendIn) (y : StreamAnswer) (o other : SendLeft) → SendSays i o → SendSays (sentWith i (withSecond (i .answers) y)) other → o ≡ other
+  pub recv : (i : RecvIn) (a : ReadAnswer) (bytes : List ℕ) (o other : RecvLeft) → RecvSays i o → RecvSays (readWith i a bytes) other
+      → (Reads (turnOf i) → ⊥) → o ≡ other
+  pub notify : (i : NotifyIn) (a : StreamAnswers) (o other : NotifyLeft) → NotifySays i o → NotifySays (notifiedWith i a) other → (Flushes i → ⊥) → o ≡ other
+  pub notify-second : (i : NotifyIn) (y : StreamAnswer) (o other : NotifyLeft) → NotifySays i o → NotifySays (notifiedWith i (withSecond (i .answers) y)) other
+      → usesSecond (i .conn .«tx_buf») (i .answers) ≡ false → o ≡ other
+  pub raw-second : (i : RawIn) (y : StreamAnswer) (o other : RawLeft) → RawSays i o → RawSays (rawWith i (withSecond (i .answers) y)) other → o ≡ other
+
+-- ---- soundness
+
+-- a sound record stays sound, over the same storage; an opening that is done gives a sound one
+pub record SoundStaysSound : Type 0 where
+  pub peer : (o : Opening) (left : ConnLeft) → PeerInitSays o left → left .answer .number ≡ 0 → Sound (left .conn)
+  pub local : (o : Opening) (left : ConnLeft) → LocalInitSays o left → left .answer .number ≡ 0 → Sound (left .conn)
+  pub send : (i : SendIn) (o : SendLeft) → Numbers (i .conn) → SendSays i o → SoundOver (i .conn) (length (i .store)) → SoundOver (o .conn) (length (o .store))
+  pub recv : (i : RecvIn) (o : RecvLeft) → RecvSays i o → Sound (i .conn) → Sound (o .conn)
+  pub notify : (i : NotifyIn) (o : NotifyLeft) → Numbers (i .conn) → NotifySays i o → SoundOver (i .conn) (length (i .store)) → SoundOver (o .conn) (length (i .store))
+  pub kill : (c : VsockConnection) (o : ConnLeft) → KillSays c o → Sound c → Sound (o .conn)
+
+-- ---- the sender's duty (virtio 1.2, 5.10.6.3)
+
+-- what a turn says is no longer than the guest's free space, by true counts of which the record has the last 32 bits, as long as no more is outstanding
+-- than the guest allocated; and its len is the number of bytes that filled the buffer: so many were supplied, and so many fit
+pub record FitsPeer (i : RecvIn) (alloc sent fwd : ℕ) : Type 0 where
+  pub free : saidNow (turnOf i) .len ≤ alloc - (sent - fwd)
+  pub supplied : saidNow (turnOf i) .len ≤ length (i .read)
+  pub fits : saidNow (turnOf i) .len ≤ length (i .buf)
+
+abbrev pub DataFitsPeer : Type 0
+DataFitsPeer =
+    (i : RecvIn) (o : RecvLeft) (alloc sent fwd : ℕ) → RecvSays i o → (Refuses (o .answer) → ⊥) → alloc < 2 ^ 32 → fwd ≤ sent → sent - fwd ≤ alloc
+    → i .conn .«peer_buf_alloc» ≡ alloc → i .conn .«rx_cnt» ≡ sent % 2 ^ 32 → i .conn .«peer_fwd_cnt» ≡ fwd % 2 ^ 32 → FitsPeer i alloc sent fwd
