@@ -155,7 +155,7 @@ module _ (i : SendIn) (g : meetsData i ≡ false) where
   unfolding killsOf planOf when
   nothing-brought = rw stays-out
 
-met : (i : SendIn) → when (sendKills i) (take (sendPlan i .written) (take (sendPlan i .len) (i .buf))) (take (sendPlan i .len) (i .buf)) ≡ acceptedNow i
+pub met : (i : SendIn) → when (sendKills i) (take (sendPlan i .written) (take (sendPlan i .len) (i .buf))) (take (sendPlan i .len) (i .buf)) ≡ acceptedNow i
 met i =
     ⊎-elim
     (λ (g : meetsData i ≡ true). rw (kills-now i g, plan-written i g, plan-len i g) (sym (when-true _ _ _ g)))

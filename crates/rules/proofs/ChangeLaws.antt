@@ -542,7 +542,7 @@ module _ (i : NotifyIn) where
   abbrev total : ℕ
   total = countedNow ring (i .answers)
 
-  due-now : due i ≡ flushesNow i
+  pub due-now : due i ≡ flushesNow i
   unfolding quiet
   due-now = ap (λ (b : Bool). i .writable && b) (sym (held-some (usedOf ring)))
 
@@ -571,19 +571,19 @@ module _ (i : NotifyIn) where
       stops-none Failed e = refl
 
   -- what a flush that the event absorbs leaves: it is done, or its first write stopped and nothing was taken
-  record Flushed : Type 0 where
-    count : flushed i .count ≡ total
-    ring-left : flushed i .ring ≡ takenOff ring total
+  pub record Flushed : Type 0 where
+    pub count : flushed i .count ≡ total
+    pub ring-left : Numbers (i .conn) → flushed i .ring ≡ takenOff ring total
 
-  flush-left : Numbers (i .conn) → soundOf ring (length (i .store)) ≡ true → absorbed (flushAnswer (flushIn i)) ≡ Done → Flushed
+  flush-left : soundOf ring (length (i .store)) ≡ true → absorbed (flushAnswer (flushIn i)) ≡ Done → Flushed
   unfolding flushOf flushDone flushKept absorbed
-  flush-left w s a =
+  flush-left s a =
       ⊎-elim
       (λ (t : isDone (flushAnswer (flushIn i)) ≡ true).
       let z : flushed i ≡ flushDone (flushIn i) = when-done _ _ _ (is-done _ t) in
       record {
         count = ap (λ (o : FlushLeft). o .count) z ∙ count-is (flushIn i);
-        ring-left = ap (λ (o : FlushLeft). o .ring) z ∙ ap (takenOff ring) (count-is (flushIn i));
+        ring-left = λ w. ap (λ (o : FlushLeft). o .ring) z ∙ ap (takenOff ring) (count-is (flushIn i));
       })
       (λ (t : isDone (flushAnswer (flushIn i)) ≡ false).
       let z : flushed i ≡ flushKept (flushIn i) = when-not-done _ _ _ t in
@@ -595,24 +595,25 @@ module _ (i : NotifyIn) where
       let none : total ≡ 0 = stopped-none s (ap (λ (o : FlushLeft). o .answer .number) z ∙ n) in
       record {
         count = ap (λ (o : FlushLeft). o .count) z ∙ sym none;
-        ring-left = ap (λ (o : FlushLeft). o .ring) z ∙ rw none (let k = w .ring .tail in let q : wadd (ring .tail) 0 ≡ ring .tail = omega arith in rw q);
+        ring-left = λ w. ap (λ (o : FlushLeft). o .ring) z ∙ rw none (let k = w .ring .tail in let q : wadd (ring .tail) 0 ≡ ring .tail = omega arith in rw q);
       })
       (true-or-false (isDone (flushAnswer (flushIn i))))
 
-  module _ (w : Numbers (i .conn)) (d : notifyAnswer i ≡ Done) where
+  module _ (d : notifyAnswer i ≡ Done) where
     sound : soundOf ring (length (i .store)) ≡ true
     unfolding notifyAnswer notifyDoor
     sound = sound-over-ring (i .conn) (length (i .store)) (record-passed _ _ refl (lowest-passed _ _ d .0))
 
+    pub left : flushesNow i ≡ true → Flushed
+    unfolding notifyAnswer
+    left f = flush-left sound (sym (when-true _ _ (due i) (due-now ∙ f)) ∙ lowest-passed _ _ d .1)
+
+    -- no more is taken than is held
+    pub within : flushesNow i ≡ true → total ≤ usedOf ring
+    within f = let c = left f .count in let l = count-small (flushIn i) (flushed i) refl in omega arith
+
+  module _ (w : Numbers (i .conn)) (d : notifyAnswer i ≡ Done) where
     module _ (f : flushesNow i ≡ true) where
-      left : Flushed
-      unfolding notifyAnswer
-      left = flush-left w sound (sym (when-true _ _ (due i) (due-now ∙ f)) ∙ lowest-passed _ _ d .1)
-
-      -- no more is taken than is held
-      pub within : total ≤ usedOf ring
-      within = let c = left .count in let l = count-small (flushIn i) (flushed i) refl in omega arith
-
       abbrev count : ℕ
       count = wadd (i .conn .«fwd_cnt») total
 
@@ -621,13 +622,13 @@ module _ (i : NotifyIn) where
       unfolding notifyDone quiet
       conn-left =
           when-true _ _ (due i) (due-now ∙ f)
-          ∙ rw (left .ring-left, left .count)
+          ∙ rw (left d f .ring-left w, left d f .count)
 
       out-left : notifyDone i .out ≡ take total (held ring (i .store)) ++ drop total (i .out)
       unfolding notifyDone
       out-left =
           when-true _ _ (due i) (due-now ∙ f) ∙ flush-takes-oldest (flushIn i) (flushed i) (w .ring) refl .front
-          ∙ ap (λ (k : ℕ). take k (held ring (i .store)) ++ drop k (i .out)) (left .count)
+          ∙ ap (λ (k : ℕ). take k (held ring (i .store)) ++ drop k (i .out)) (left d f .count)
 
     -- what it leaves, by the form of its record
     abbrev ends : ConnState → TxBuf → Bool

@@ -3,12 +3,12 @@ use Prim.Native.Nat.{ℕ, _+_, _-_, _≤_}
 use mathlib.Core.Path.{_≡_, refl, sym, ap, subst, _∙_}
 use mathlib.Core.Logic.{⊎-elim}
 use mathlib.Core.Bool.{Bool, true, false, _&&_}
-use mathlib.Core.List.{List}
+use mathlib.Core.List.{List, []}
 use native.Mathlib.Omega.{arith}
 use lib.Dec.{eqb}
 use lib.ListN.{length}
-use borrow.Author.Tests.{ltb-false, not-true}
-use Rattle.defs.specs.Answer.{Told, told, isDone}
+use borrow.Author.Tests.{ltb-false, eqb-true, not-true}
+use Rattle.defs.specs.Answer.{Told, told, isDone, whenDone}
 use Rattle.defs.specs.Choice.{when}
 use Rattle.defs.specs.Stream.{failed, readCounted}
 use Rattle.defs.specs.Wrapping.{wadd, wsub}
@@ -20,7 +20,7 @@ use Rattle.defs.specs.declared.stream.ReadAnswer.{ReadAnswer}
 use Rattle.defs.proofs.Basics.{true-or-false, both, neither}
 use Rattle.defs.proofs.AnswerLaws.{number-zero, is-done, when-not-done}
 use Rattle.defs.proofs.LadderLaws.{record-passed}
-use Rattle.defs.proofs.ChoiceLaws.{when-false, when-holds}
+use Rattle.defs.proofs.ChoiceLaws.{when-true, when-false, when-holds}
 use Rattle.defs.proofs.Promises.{told-tells-apart, credit-is-free-space}
 use Rattle.packet.specs.Header.{decoded}
 use Rattle.packet.specs.declared.hdr.VsockPacketHdr.{VsockPacketHdr}
@@ -37,22 +37,22 @@ use Rattle.csm.specs.Said.{Said, saidNow}
 use Rattle.csm.specs.declared.turn.RxStep.{RxStep}
 use Rattle.csm.proofs.Promises.{says-what-was-read, says-first-pending}
 use Rattle.csm.proofs.FirstLaws.{reads-means, step-unread}
-use Rattle.rules.specs.Record.{creditOf}
+use Rattle.rules.specs.Record.{quiet, creditOf}
 use Rattle.rules.specs.Raw.{rawAnswer, rawDone, rawKept, rawOf}
 use Rattle.rules.specs.Receive.{RecvIn, nextStep, readsOf, askedOf, recvRefusal, saidBy, recvDone, recvKept, recvOf}
-use Rattle.rules.specs.Send.{SendIn, SendLeft, planOf, writesOf, pktOf, sendAnswer, sendDone, sendKept, sendOf}
+use Rattle.rules.specs.Send.{SendIn, SendLeft, planOf, writesOf, pktOf, sendAnswer, sendDone, sendKept, sendOf, accepted}
 use Rattle.rules.specs.Notify.{NotifyIn, NotifyLeft, due, flushIn, flushed, notifyAnswer, notifyDone, notifyKept, notifyOf}
 use Rattle.rules.specs.Outcomes.{meetsData, writesNow, takenNow, turnOf}
 use Rattle.rules.specs.Answers.{InRange, Sound, SoundOver}
-use Rattle.rules.specs.Moves.{Account, account, Numbers}
-use Rattle.rules.specs.Leaves.{dataStays, flushesNow, SendLeaves, NotifyLeaves}
+use Rattle.rules.specs.Moves.{Account, account, Numbers, sendTaken, notifyTaken}
+use Rattle.rules.specs.Leaves.{sendTook, notifyTook, sendAccepted, dataStays, flushesNow, SendLeaves, NotifyLeaves}
 use Rattle.rules.specs.Common.{SoundStaysSound, sentWith, readWith, notifiedWith, withSecond, UnreachedIsIgnored, DataFitsPeer}
 use Rattle.rules.specs.Open.{ConnLeft, freshOf, openAnswer, peerInitOf, localInitOf}
 use Rattle.rules.specs.declared.record.Settings.{Settings}
 use Rattle.rules.specs.declared.record.VsockConnection.{VsockConnection}
 use Rattle.rules.proofs.AnswerLaws.{settings-mean, writes-means, due-means, notify-told}
-use Rattle.rules.proofs.CallLaws.{not-refused, send-number}
-use Rattle.rules.proofs.ChangeLaws.{made-done, within, every-send-leaves, every-notify-leaves}
+use Rattle.rules.proofs.CallLaws.{not-refused, send-number, plan-written, stays-out, met}
+use Rattle.rules.proofs.ChangeLaws.{made-done, due-now, left, within, every-send-leaves, every-notify-leaves}
 use Rattle.rules.proofs.MovesLaws.{receive-keeps, kill-keeps}
 use Rattle.rules.proofs.ReceiveLaws.{asked-at-most, passed}
 
@@ -177,7 +177,7 @@ sound-notified i o w d v s =
     subst (Within b) (sym (v .ring))
     (when-holds (Within b) (flushesNow i) _ _
     (λ t.
-    let l = within i w d t in
+    let l = within i d t in
     let h = s .0 .held in
     let u : wsub (b .head) (wadd (b .tail) n) ≡ wsub (b .head) (b .tail) - n = used-advanced (b .head) (b .tail) n (w .ring .head) (w .ring .tail) l in
     (refl, omega arith))
@@ -213,3 +213,39 @@ sound-stays-sound = record {
       (true-or-false (isDone (notifyAnswer i)));
   kill = λ c o says s. sound-kept c (o .conn) (kill-keeps c o says) s;
 }
+
+-- ---- what a call took and accepted, in 01's words
+
+-- by the answer or by its number, where what it left is told
+by-number : {A : Type 0} (a : Answer) (t : Told) (x y z : A) → t ≡ told a → (a ≡ Done → x ≡ y) → when (eqb (t .number) 0) x z ≡ whenDone a y z
+unfolding whenDone isDone
+by-number a t x y z e f =
+    rw e
+    (⊎-elim
+    (λ (b : eqb (told a .number) 0 ≡ true). when-true _ _ _ b ∙ f (number-zero a (eqb-true _ 0 b)) ∙ sym (when-true _ _ _ b))
+    (λ (b : eqb (told a .number) 0 ≡ false). when-false _ _ _ b ∙ sym (when-false _ _ _ b))
+    (true-or-false (eqb (told a .number) 0)))
+
+pub took-sent : (i : SendIn) (o : SendLeft) → o ≡ sendOf i → sendTook i o ≡ sendTaken i
+unfolding sendTaken planOf
+took-sent i o says =
+    by-number (sendAnswer i) (o .answer) _ _ 0 (send-number i o says)
+    (λ d.
+    ⊎-elim
+    (λ (m : meetsData i ≡ true). when-true _ _ _ m ∙ sym (plan-written i m))
+    (λ (m : meetsData i ≡ false). when-false _ _ _ m ∙ sym (when-false _ _ _ (ap (λ (b : Bool). b && quiet (i .conn .«tx_buf»)) (stays-out i m))))
+    (true-or-false (meetsData i)))
+
+pub accepted-sent : (i : SendIn) (o : SendLeft) → o ≡ sendOf i → sendAccepted i o ≡ accepted i
+unfolding accepted
+accepted-sent i o says = by-number (sendAnswer i) (o .answer) _ _ [] (send-number i o says) (λ d. sym (met i))
+
+pub took-notified : (i : NotifyIn) (o : NotifyLeft) → o ≡ notifyOf i → notifyTook i o ≡ notifyTaken i
+unfolding notifyTaken
+took-notified i o says =
+    by-number (notifyAnswer i) (o .answer) _ _ 0 (ap (λ (x : NotifyLeft). x .answer) says ∙ notify-told i)
+    (λ d.
+    ⊎-elim
+    (λ (f : flushesNow i ≡ true). when-true _ _ _ f ∙ sym (left i d f .count) ∙ sym (when-true _ _ _ (due-now i ∙ f)))
+    (λ (f : flushesNow i ≡ false). when-false _ _ _ f ∙ sym (when-false _ _ _ (due-now i ∙ f)))
+    (true-or-false (flushesNow i)))

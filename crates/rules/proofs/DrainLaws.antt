@@ -35,7 +35,7 @@ use Rattle.rules.specs.Notify.{absorbed, NotifyIn, NotifyLeft, due, flus
 use Rattle.rules.specs.Runs.{Event, sends, receives, notifies, kills, looks, after, Made, connections, isOut, HeadStays, Drains}
 use Rattle.rules.specs.declared.record.VsockConnection.{VsockConnection}
 use Rattle.rules.proofs.MovesLaws.{goes-is-rw, rule-counts, rule-keeps, drain-counts, receive-keeps, kill-keeps}
-use Rattle.rules.proofs.RunLaws.{event-moves, numbers-kept, run-numbers}
+use Rattle.rules.proofs.RunLaws.{event-moves, numbers-kept}
 
 -- how many bytes a connection holds
 abbrev heldBy : VsockConnection → ℕ
@@ -187,5 +187,5 @@ out-falls d s (looks l) w m x = absurd (never x)
 -- ---- over the calls
 
 pub drains : Drains
-drains s t u c d x y r v p b =
-    any.drains connections Numbers heldBy HeadStays isOut numbers-kept (record { stays = least; falls = out-falls }) c d x y u (run-numbers r) v p b
+drains u c d x y w v p b =
+    any.drains connections Numbers heldBy HeadStays isOut numbers-kept (record { stays = least; falls = out-falls }) c d x y u w v p b

@@ -16,14 +16,15 @@ use Rattle.rules.specs.Open.{Opening, ConnLeft, freshOf, zeroConn, openA
 use Rattle.rules.specs.Moves.{Numbers, Moved}
 use Rattle.rules.specs.Runs.{Event, sends, receives, notifies, kills, looks, after, storeAfter, Made, connections, Start, Opens, Run, tookBy, acceptedBy, bytes, EveryRunForwards, CutsDoNotMatter}
 use Rattle.rules.specs.declared.record.VsockConnection.{VsockConnection}
+use Rattle.rules.proofs.CommonLaws.{took-sent, accepted-sent, took-notified}
 use Rattle.rules.proofs.MovesLaws.{stays, send-moves, notify-moves, receive-keeps, kill-keeps}
 
 -- what a call moves, whichever it is
 pub event-moves : (c : VsockConnection) (store : List ℕ) (e : Event) → Numbers c → Made c store e
     → Moved c (after e) (held (c .«tx_buf») store) (held (after e .«tx_buf») (storeAfter store e)) (tookBy e) (acceptedBy e)
-event-moves c store (sends i o) n m = rw (← (m .0), ← (m .1)) (send-moves i o (rw (m .0) n) (m .2))
+event-moves c store (sends i o) n m = rw (← (m .0), ← (m .1), took-sent i o (m .2), accepted-sent i o (m .2)) (send-moves i o (rw (m .0) n) (m .2))
 event-moves c store (receives i o) n m = rw (← (m .0)) (stays (i .conn) (o .conn) store (rw (m .0) n) (receive-keeps i o (m .1)))
-event-moves c store (notifies i o) n m = rw (← (m .0), ← (m .1)) (notify-moves i o (rw (m .0) n) (m .2))
+event-moves c store (notifies i o) n m = rw (← (m .0), ← (m .1), took-notified i o (m .2)) (notify-moves i o (rw (m .0) n) (m .2))
 event-moves c store (kills d o) n m = rw (← (m .0)) (stays d (o .conn) store (rw (m .0) n) (kill-keeps d o (m .1)))
 event-moves c store (looks l) n m = rw (m .0) (stays c c store n refl)
 

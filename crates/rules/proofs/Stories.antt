@@ -3,7 +3,7 @@ use mathlib.Core.Path.{_≡_, refl, sym, _∙_}
 use mathlib.Core.Bool.{true, false}
 use mathlib.Core.List.{[], _∷_, _++_}
 use native.Mathlib.Omega.{arith}
-use lib.ListN.{replicate}
+use lib.ListN.{take, replicate}
 use Rattle.defs.specs.Choice.{when}
 use Rattle.defs.specs.Answer.{isDone, whenDone}
 use Rattle.defs.specs.Limits.{isRingSize, isThreshold, isTimeout, isClock, isPacketLength, isHeaderLength}
@@ -22,12 +22,11 @@ use Rattle.csm.specs.declared.state.ConnState.the-variants.{PeerClosed, Killed}
 use Rattle.rules.specs.Record.{okSettings, soundConn, soundOver, quiet, creditOf, withState, killedOf}
 use Rattle.rules.specs.Notify.{seenOf, absorbed, settledOf, drainedOf, notifyDoor, notifyAnswer, notifyDone, notifyKept, notifyOf}
 use Rattle.rules.specs.Open.{freshOf, openAnswer, peerInitOf, localInitOf}
-use Rattle.rules.specs.Moves.{sendTaken, notifyTaken}
 use Rattle.rules.specs.Receive.{spokenOf, receivedOf, headerOf, recvDoor, recvRefusal, recvDone, recvKept, recvOf}
 use Rattle.rules.specs.Send.{heardOf, movedOf, updatedOf, onResponse, onShutdown, onData, ruleOf, goesOf, planOf, killsOf, sendDoorOf, sendLate, carried, sendDoor, sendAnswer, sendDone, sendKept, sendOf, accepted}
 use Rattle.rules.specs.Runs.{before, after, storeAfter, Steps, Run, tookBy, acceptedBy, deliveredBy, outs}
-use Rattle.rules.specs.Stories.{startA, a1, a2, a3, a4, a5, a6, a7, storeA, storyA, upToA5, endStoreA, startB, b1, b2, b3, b4, storyB, endStoreB, c3, c4, storyC, endStoreC, d2, storeD, d3, d4, d5, draining, startE, e1, e2, e3, e4, e5, storyE, endStoreE, ten, StoriesHold}
-use Rattle.rules.proofs.RunLaws.{every-run-forwards, cuts-do-not-matter}
+use Rattle.rules.specs.Stories.{startA, a1, a2, a3, a4, a5, a6, a7, storeA, storyA, upToA5, endStoreA, startB, b1, b2, b3, b4, storyB, endStoreB, c3, c4, storyC, endStoreC, d2, storeD, d3, d4, d5, draining, startE, e1, e2, e3, e4, e5, storyE, endStoreE, ten, f6, endStoreF, f7, storyF, g2, endStoreG, storyG, StoriesHold}
+use Rattle.rules.proofs.RunLaws.{run-numbers, every-run-forwards, cuts-do-not-matter}
 use Rattle.rules.proofs.FlagLaws.{flags-only-grow}
 use Rattle.rules.proofs.DrainLaws.{drains}
 
@@ -56,6 +55,12 @@ run-e = record {
       then (then (then (then (then none e1 (refl, refl, refl)) e2 (refl, refl, refl)) e3 (refl, refl, refl)) e4 (refl, refl, refl)) e5 (refl, refl, refl);
 }
 
+run-f : Run startA storyF (after f7) endStoreF
+run-f = record { opened = refl; steps = then (then (up-to-a5 .steps) f6 (refl, refl, refl)) f7 (refl, refl, refl) }
+
+run-g : Run startA storyG (after g2) endStoreG
+run-g = record { opened = refl; steps = then (then none a1 (refl, refl)) g2 (refl, refl, refl) }
+
 up-to-d2 : Run startA (d2 ∷ a1 ∷ []) (after d2) storeD
 up-to-d2 = record { opened = refl; steps = then (then none a1 (refl, refl)) d2 (refl, refl, refl) }
 
@@ -77,7 +82,14 @@ record Computed : Type 0 where
   taken-e : gathered tookBy storyE ≡ replicate 12 7 ++ ten
   accepted-e : gathered acceptedBy storyE ≡ replicate 12 7 ++ ten
   empty-e : usedOf (after e5 .«tx_buf») ≡ 0
+  taken-f : gathered tookBy storyF ≡ ten ++ take 3 ten
+  accepted-f : gathered acceptedBy storyF ≡ ten ++ take 3 ten
+  empty-f : usedOf (after f7 .«tx_buf») ≡ 0
+  taken-g : gathered tookBy storyG ≡ take 3 ten
+  accepted-g : gathered acceptedBy storyG ≡ take 3 ten
+  empty-g : usedOf (after g2 .«tx_buf») ≡ 0
   killed-c : after c3 .state ≡ Killed
+  killed-g : after g2 .state ≡ Killed
   refused-a : after a3 ≡ before a3
   half-off : after a5 .state ≡ PeerClosed true false
   both-off : after a6 .state ≡ PeerClosed true true
@@ -90,7 +102,7 @@ record Computed : Type 0 where
   outs-2 : outs draining ≡ 2
 
 computed : Computed
-unfolding when isDone whenDone isRingSize isThreshold isTimeout isClock isPacketLength isHeaderLength doorOf lateOf lowestOf recordAnswer clockAnswer copied peerAvailCredit peerNeedsCreditUpdate encoded decoded soundRecord soundOf heldFrom held runs pushDone takenBy overBy endsBy flushCount flushOver flushAnswer flushDone flushKept flushOf okSettings soundConn soundOver quiet creditOf withState killedOf seenOf absorbed settledOf drainedOf notifyDoor notifyAnswer notifyDone notifyKept notifyOf freshOf openAnswer peerInitOf localInitOf sendTaken notifyTaken turnStep spokenOf receivedOf headerOf recvDoor turnReads recvRefusal recvDone recvKept recvOf heardOf movedOf updatedOf onResponse onShutdown onData ruleOf goesOf planOf killsOf sendDoorOf sendLate carried sendDoor sendAnswer sendDone sendKept sendOf accepted gathered runs.outs
+unfolding when isDone whenDone isRingSize isThreshold isTimeout isClock isPacketLength isHeaderLength doorOf lateOf lowestOf recordAnswer clockAnswer copied peerAvailCredit peerNeedsCreditUpdate encoded decoded soundRecord soundOf heldFrom held runs pushDone takenBy overBy endsBy flushCount flushOver flushAnswer flushDone flushKept flushOf okSettings soundConn soundOver quiet creditOf withState killedOf seenOf absorbed settledOf drainedOf notifyDoor notifyAnswer notifyDone notifyKept notifyOf freshOf openAnswer peerInitOf localInitOf turnStep spokenOf receivedOf headerOf recvDoor turnReads recvRefusal recvDone recvKept recvOf heardOf movedOf updatedOf onResponse onShutdown onData ruleOf goesOf planOf killsOf sendDoorOf sendLate carried sendDoor sendAnswer sendDone sendKept sendOf gathered runs.outs
 computed = record {
   taken-a = refl;
   accepted-a = refl;
@@ -104,7 +116,14 @@ computed = record {
   taken-e = refl;
   accepted-e = refl;
   empty-e = refl;
+  taken-f = refl;
+  accepted-f = refl;
+  empty-f = refl;
+  taken-g = refl;
+  accepted-g = refl;
+  empty-g = refl;
   killed-c = refl;
+  killed-g = refl;
   refused-a = refl;
   half-off = refl;
   both-off = refl;
@@ -121,7 +140,7 @@ two-drained : usedOf (after d5 .«tx_buf») ≡ 0
 unfolding Each
 two-drained =
     let v = computed in
-    drains startA (d2 ∷ a1 ∷ []) draining (after d2) (after d5) storeD storeD up-to-d2 drain-steps
+    drains draining (after d2) (after d5) storeD storeD (run-numbers up-to-d2) drain-steps
     (v .head-5 ∙ sym (v .head-4), (v .head-4 ∙ sym (v .head-3), (v .head-3 ∙ sym (v .head-2), tt)))
     (omega (arith, v .held-2, v .outs-2))
 
@@ -133,7 +152,11 @@ stories-hold =
       other-cut = record { run = run-b; forwards = every-run-forwards _ _ _ _ run-b; taken = v .taken-b; accepted = v .accepted-b; empty = v .empty-b };
       killed = record { run = run-c; forwards = every-run-forwards _ _ _ _ run-c; taken = v .taken-c; accepted = v .accepted-c; empty = v .empty-c };
       both-pieces = record { run = run-e; forwards = every-run-forwards _ _ _ _ run-e; taken = v .taken-e; accepted = v .accepted-e; empty = v .empty-e };
+      peer-closed = record { run = run-f; forwards = every-run-forwards _ _ _ _ run-f; taken = v .taken-f; accepted = v .accepted-f; empty = v .empty-f };
+      taken-in-part = record { run = run-g; forwards = every-run-forwards _ _ _ _ run-g; taken = v .taken-g; accepted = v .accepted-g; empty = v .empty-g };
       is-killed = v .killed-c;
+      is-closed = v .half-off;
+      dies-in-part = v .killed-g;
       refused = v .refused-a;
       alike = cuts-do-not-matter _ _ _ _ _ _ _ _ run-a run-b (v .accepted-a ∙ sym (v .accepted-b)) (v .empty-a) (v .empty-b);
       grown = flags-only-grow _ _ _ _ up-to-a5 a6 (refl, refl, refl) true false (v .half-off);

@@ -18,9 +18,10 @@ use Rattle.csm.specs.declared.state.ConnState.the-variants.{PeerClosed}
 use Rattle.rules.specs.Open.{Opening, ConnLeft, PeerInitSays, LocalInitSays}
 use Rattle.rules.specs.Look.{PendingSays, Timed, WillExpireSays, HasExpiredSays, ExpiryLeft, ExpirySays, StateLeft, StateSays, EvSetLeft, EvSetSays, KillSays}
 use Rattle.rules.specs.Receive.{RecvIn, RecvLeft, RecvSays}
-use Rattle.rules.specs.Send.{SendIn, SendLeft, SendSays, accepted}
+use Rattle.rules.specs.Send.{SendIn, SendLeft, SendSays}
 use Rattle.rules.specs.Notify.{NotifyIn, NotifyLeft, NotifySays, due}
-use Rattle.rules.specs.Moves.{sendTaken, notifyTaken}
+use Rattle.rules.specs.Moves.{Numbers}
+use Rattle.rules.specs.Leaves.{sendTook, notifyTook, sendAccepted}
 use Rattle.rules.specs.Offer.{SendGiven, RecvGiven, AskedLeft, SendDoorSays, SendWritesSays, SendOfferedSays, RecvDoorSays, RecvAskedSays, NotifyDoorSays, NotifyOfferedSays, NotifyNextSays, RawDoorSays, RawOfferedSays}
 use Rattle.rules.specs.declared.record.VsockConnection.{VsockConnection}
 
@@ -151,15 +152,15 @@ pub record Run (s : Start) (t : List Event) (c : VsockConnection) (store : List 
 
 -- the bytes that the stream took in a call: the front of the outgoing buffer, as many as the answers count that the call reached
 abbrev pub tookBy : Event → List ℕ
-tookBy (sends i o) = take (sendTaken i) (o .out)
+tookBy (sends i o) = take (sendTook i o) (o .out)
 tookBy (receives i o) = []
-tookBy (notifies i o) = take (notifyTaken i) (o .out)
+tookBy (notifies i o) = take (notifyTook i o) (o .out)
 tookBy (kills c o) = []
 tookBy (looks l) = []
 
 -- 01's accepted payload
 abbrev pub acceptedBy : Event → List ℕ
-acceptedBy (sends i o) = accepted i
+acceptedBy (sends i o) = sendAccepted i o
 acceptedBy (receives i o) = []
 acceptedBy (notifies i o) = []
 acceptedBy (kills c o) = []
@@ -223,8 +224,9 @@ HeadStays e = after e .«tx_buf» .head ≡ before e .«tx_buf» .head
 abbrev pub Pushless : List Event → Type 0
 Pushless = Each HeadStays
 
--- 01: a ring of n bytes is empty after n such out-events, if nothing is pushed between; calls that push nothing may stand between
+-- 01: a ring of n bytes is empty after n such out-events, if nothing is pushed between; calls that push nothing may stand between. From any record whose
+-- numbers are 32 bits wide
 abbrev pub Drains : Type 0
 Drains =
-    (s : Start) (t u : List Event) (c d : VsockConnection) (x y : List ℕ) → Run s t c x → Steps c x u d y → Pushless u → usedOf (c .«tx_buf») ≤ outs u
+    (u : List Event) (c d : VsockConnection) (x y : List ℕ) → Numbers c → Steps c x u d y → Pushless u → usedOf (c .«tx_buf») ≤ outs u
     → usedOf (d .«tx_buf») ≡ 0

@@ -201,6 +201,34 @@ e5 = out2 (after e4) endStoreE (Count 4) (Count 6)
 abbrev pub storyE : List Event
 storyE = e5 ∷ e4 ∷ e3 ∷ e2 ∷ e1 ∷ []
 
+-- ---- a guest that will receive no more, and still sends: three bytes more, behind the six that are held
+
+abbrev pub storeF : List ℕ
+storeF = storeAfter (storeAfter storeA a3) a5
+
+abbrev pub f6 : Event
+f6 = comes (after a5) storeF (packet opRw 0 3) (take 3 ten) (Count 9)
+
+abbrev pub endStoreF : List ℕ
+endStoreF = storeAfter storeF f6
+
+abbrev pub f7 : Event
+f7 = out (after f6) endStoreF (Count 9)
+
+abbrev pub storyF : List Event
+storyF = f7 ∷ f6 ∷ upToA5
+
+-- ---- a packet of which the stream takes three bytes, and whose rest the ring has no room for: killed, and the three were accepted
+
+abbrev pub g2 : Event
+g2 = comes (after a1) (startA .store) (packet opRw 0 20) (ten ++ ten) (Count 3)
+
+abbrev pub endStoreG : List ℕ
+endStoreG = storeAfter (startA .store) g2
+
+abbrev pub storyG : List Event
+storyG = g2 ∷ a1 ∷ []
+
 -- ---- what the theorems say of them, and what they come to
 
 pub record Ends (s : Start) (t : List Event) (c : VsockConnection) (store bytes : List ℕ) : Type 0 where
@@ -215,7 +243,11 @@ pub record StoriesHold : Type 0 where
   pub other-cut : Ends startB storyB (after b4) endStoreB ten
   pub killed : Ends startA storyC (after c4) endStoreC ten
   pub both-pieces : Ends startE storyE (after e5) endStoreE (replicate 12 7 ++ ten)
+  pub peer-closed : Ends startA storyF (after f7) endStoreF (ten ++ take 3 ten)
+  pub taken-in-part : Ends startA storyG (after g2) endStoreG (take 3 ten)
   pub is-killed : after c3 .state ≡ Killed
+  pub is-closed : before f6 .state ≡ PeerClosed true false
+  pub dies-in-part : after g2 .state ≡ Killed
   pub refused : after a3 ≡ before a3
   pub alike : Alike storyA storyB (after a7) (after b4)
   pub grown : Grown true false (after a6 .state)
