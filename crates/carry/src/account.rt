@@ -8,6 +8,9 @@ use libc::STDERR_FILENO;
 // The bytes between two signs of life: 64 MiB.
 const FAR: u64 = 67108864;
 
+// Where a 32-bit count comes round.
+const WRAP: u64 = 4294967296;
+
 fn say(words: &[u8]) {
     io::write_all(STDERR_FILENO, words);
 }
@@ -17,8 +20,24 @@ fn number(name: &[u8], n: u64) {
     io::print_decimal(STDERR_FILENO, n);
 }
 
-pub fn help() {
-    say(b"carry [RING [PACKET [MOODS]]]: ring a power of two");
+// What is wrong with the arguments, the first of several, and what they may be.
+pub fn objection(ring: bool, packet: bool, moods: bool, few: bool) {
+    if !ring {
+        say(b"carry: RING is not a ring's size\n");
+    } else if !packet {
+        say(b"carry: PACKET is not a packet's size\n");
+    } else if !moods {
+        say(b"carry: MOODS is not a script of moods\n");
+    } else if !few {
+        say(b"carry: there is an argument too many\n");
+    }
+    if !(ring & packet & moods & few) {
+        usage();
+    }
+}
+
+fn usage() {
+    say(b"usage: carry [RING [PACKET [MOODS]]]: ring a power of two");
     number(b" from ", MIN_RING_SIZE as u64);
     number(b" to ", arguments::MAX_RING as u64);
     number(b", packet 1 to ", MAX_PKT_BUF_SIZE as u64);
@@ -41,6 +60,9 @@ pub fn account(t: Trip) {
     number(b", held now ", ring.used() as u64);
     number(b", credit updates ", t.updates);
     number(b", forwarded count ", t.conn.fwd_cnt as u64);
+    if WRAP <= t.taken {
+        say(b" (bytes taken modulo 2^32)");
+    }
     say(b"\n");
     verdict(t, ring.used());
 }
@@ -51,11 +73,8 @@ fn verdict(t: Trip, held: u32) {
         number(b"carry: a call was refused with answer ", t.refused as u64);
         name(t.refused);
     }
-    if t.unread {
-        say(b"carry: the input could not be read to its end\n");
-    }
     if (t.bytes_in != t.taken) | (held != 0) {
-        say(b"carry: the stream failed: it took what is said above, the rest did not go on\n");
+        say(b"carry: the stream took what is said above, the rest did not go on\n");
     }
 }
 

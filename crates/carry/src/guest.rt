@@ -4,6 +4,7 @@ use crate::moods::mood;
 use crate::moods::next;
 use crate::trip;
 use crate::trip::Trip;
+use crate::waiting;
 use connection::VsockConnection;
 use defs::ReadAnswer;
 use defs::StreamAnswer;
@@ -51,6 +52,7 @@ fn heard(trip: Trip, hdr: &[u8]) -> Trip {
     };
     t.alloc = said.buf_alloc;
     t.heard = said.fwd_cnt;
+    t.asked = false;
     if said.op == uapi::VSOCK_OP_RST {
         t.over = true;
     }
@@ -60,8 +62,8 @@ fn heard(trip: Trip, hdr: &[u8]) -> Trip {
     t
 }
 
-// As much of the input as packet and credit allow. Without credit the guest asks for news, and at
-// the end of the input it shuts down.
+// As much of the input as packet and credit allow. Without credit the guest asks for news, once, and
+// at the end of the input it shuts down.
 pub fn bring(
     trip: Trip,
     packet: usize,
@@ -76,15 +78,27 @@ pub fn bring(
     let credit = defs::peer_avail_credit(trip.alloc, trip.sent, trip.heard);
     let n = defs::smaller(packet, credit as usize);
     if n == 0 {
-        let op = uapi::VSOCK_OP_CREDIT_REQUEST;
-        return deliver(trip, op, 0, b"", moods, storage, out);
+        return ask(trip, moods, storage, out);
     }
     let got = fill(buf, n);
-    if got <= 0 {
-        return close(trip, got < 0, moods, storage, out);
+    if got < 0 {
+        return unread(trip, moods, storage, out);
+    }
+    if got == 0 {
+        return close(trip, moods, storage, out);
     }
     let data = text::front(buf, io::count(got, buf));
     deliver(trip, uapi::VSOCK_OP_RW, 0, data, moods, storage, out)
+}
+
+fn ask(trip: Trip, moods: &[u8], storage: &mut [u8], out: &mut [u8]) -> Trip {
+    if trip.asked {
+        return trip;
+    }
+    let op = uapi::VSOCK_OP_CREDIT_REQUEST;
+    let mut t = deliver(trip, op, 0, b"", moods, storage, out);
+    t.asked = true;
+    t
 }
 
 fn fill(buf: &mut [u8], n: usize) -> isize {
@@ -92,10 +106,29 @@ fn fill(buf: &mut [u8], n: usize) -> isize {
     libc::read(STDIN_FILENO, &mut buf[..k])
 }
 
-fn close(trip: Trip, unread: bool, moods: &[u8], storage: &mut [u8], out: &mut [u8]) -> Trip {
+// Input that would block is not its end; any other failure is, and says why.
+fn unread(trip: Trip, moods: &[u8], storage: &mut [u8], out: &mut [u8]) -> Trip {
+    if waiting::would_block() {
+        return waited(trip);
+    }
+    os::fail(b"carry: the input could not be read to its end");
+    let mut t = trip;
+    t.unread = true;
+    close(t, moods, storage, out)
+}
+
+// As long as bytes are held there is something to do meanwhile.
+fn waited(trip: Trip) -> Trip {
+    let ring = trip.conn.tx_buf;
+    if ring.used() == 0 {
+        waiting::for_input();
+    }
+    trip
+}
+
+fn close(trip: Trip, moods: &[u8], storage: &mut [u8], out: &mut [u8]) -> Trip {
     let mut t = trip;
     t.ended = true;
-    t.unread = unread;
     let op = uapi::VSOCK_OP_SHUTDOWN;
     deliver(t, op, 3, b"", moods, storage, out)
 }
@@ -114,14 +147,22 @@ fn deliver(
     let len = length_of(data);
     heading(op, flags, len, &mut hdr);
     let before = trip.conn;
-    let first = tried(before, &hdr, data, storage, mood(moods, trip.writes));
+    let writes = connection::send_writes(before, &hdr, true, data, 0, storage);
+    let first = tried(
+        before,
+        writes,
+        &hdr,
+        data,
+        storage,
+        mood(moods, trip.writes),
+    );
     let second = StreamAnswer::WouldBlock;
     let answers = StreamAnswers { first, second };
     let after = connection::send_pkt(before, &hdr, true, data, 0, storage, answers, out);
     let answer = after.answer;
     let conn = after.conn;
     let mut t = trip::moved(trip, conn, answer);
-    t.writes = next(t.writes, moods.len());
+    t.writes = past(writes, t.writes, moods.len());
     t.sent = defs::wrapping_add(t.sent, len);
     t.packets = trip::add(t.packets, 1);
     t.bytes_in = trip::add_len(t.bytes_in, len);
@@ -154,8 +195,23 @@ fn heading(op: u16, flags: u32, len: u32, hdr: &mut [u8]) {
     packet::encode(pkt, hdr);
 }
 
-fn tried(conn: VsockConnection, hdr: &[u8], data: &[u8], storage: &[u8], mood: u8) -> StreamAnswer {
-    if connection::send_writes(conn, hdr, true, data, 0, storage) {
+// A mood is used up where a write is due.
+fn past(writes: bool, at: usize, moods: usize) -> usize {
+    if writes {
+        return next(at, moods);
+    }
+    at
+}
+
+fn tried(
+    conn: VsockConnection,
+    writes: bool,
+    hdr: &[u8],
+    data: &[u8],
+    storage: &[u8],
+    mood: u8,
+) -> StreamAnswer {
+    if writes {
         return host::offer(
             connection::send_offered(conn, hdr, true, data, 0, storage),
             mood,

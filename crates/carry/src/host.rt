@@ -5,6 +5,7 @@ use crate::moods::next;
 use crate::trip;
 use crate::trip::Trip;
 use crate::trip::count_of;
+use crate::waiting;
 use connection::VsockConnection;
 use defs::StreamAnswer;
 use defs::StreamAnswers;
@@ -15,35 +16,45 @@ pub fn drain(trip: Trip, moods: &[u8], storage: &[u8], out: &mut [u8]) -> Trip {
     let before = trip.conn;
     let polled = connection::get_polled_evset(before);
     if polled.writable {
-        return flush(trip, mood(moods, trip.writes), moods.len(), storage, out);
+        return flush(trip, moods, storage, out);
     }
     trip
 }
 
-fn flush(trip: Trip, mood: u8, moods: usize, storage: &[u8], out: &mut [u8]) -> Trip {
+// A mood for each piece that is offered.
+fn flush(trip: Trip, moods: &[u8], storage: &[u8], out: &mut [u8]) -> Trip {
     let before = trip.conn;
     let piece = connection::notify_offered(before, true, storage);
-    let first = offer(piece, mood);
+    let first = offer(piece, mood(moods, trip.writes));
+    let after_first = next(trip.writes, moods.len());
     let whole = count_of(first) == piece.len();
-    let second = followed(before, whole, storage, mood);
+    let rest = connection::notify_offered_next(before, true, storage);
+    let goes_on = whole & (rest.len() != 0);
+    let second = followed(goes_on, rest, mood(moods, after_first));
     let answers = StreamAnswers { first, second };
     let after = connection::notify(before, false, true, storage, answers, out);
     let answer = after.answer;
     let conn = after.conn;
     let mut t = trip::moved(trip, conn, answer);
-    t.writes = next(t.writes, moods);
+    t.writes = past_second(goes_on, after_first, moods.len());
     t.taken = trip::add_count(t.taken, first);
     t.taken = trip::add_count(t.taken, second);
     t
 }
 
 // The second piece, offered only if the first was taken whole.
-fn followed(conn: VsockConnection, whole: bool, storage: &[u8], mood: u8) -> StreamAnswer {
-    let piece = connection::notify_offered_next(conn, true, storage);
-    if whole & (piece.len() != 0) {
+fn followed(goes_on: bool, piece: &[u8], mood: u8) -> StreamAnswer {
+    if goes_on {
         return offer(piece, mood);
     }
     StreamAnswer::WouldBlock
+}
+
+fn past_second(goes_on: bool, at: usize, moods: usize) -> usize {
+    if goes_on {
+        return next(at, moods);
+    }
+    at
 }
 
 // A real write of the bytes, in this mood, and its true answer.
@@ -62,9 +73,12 @@ fn written(piece: &[u8]) -> StreamAnswer {
     StreamAnswer::Count(io::count(got, piece))
 }
 
+// A stream that would block is given time; one that fails says why.
 fn stopped() -> StreamAnswer {
-    if os::errno() == libc::EAGAIN {
+    if waiting::would_block() {
+        waiting::for_output();
         return StreamAnswer::WouldBlock;
     }
+    os::fail(b"carry: the stream failed");
     StreamAnswer::Failed
 }

@@ -7,13 +7,15 @@
 // resets the connection as soon as the ring is empty.
 //
 // Arguments: ring size, packet size, and a script of the stream's moods, a character for each
-// write, over and over: `.` as it comes, `p` a pause (it blocks), 1 to 9 at most so many bytes.
+// write that is due, over and over: `.` as it comes, `p` a pause (it blocks), 1 to 9 at most so
+// many bytes. scripts/carry starts it, and makes an exit status of what it says.
 mod account;
 mod arguments;
 mod guest;
 mod host;
 mod moods;
 mod trip;
+mod waiting;
 
 use crate::arguments::Wishes;
 use crate::trip::Trip;
@@ -23,14 +25,12 @@ const SCRIPT: usize = 256;
 
 fn main() {
     let mut script = [0u8; SCRIPT];
-    let wishes = arguments::wished();
     let n = os::arg(3, &mut script);
-    let known = os::errno() != libc::ENAMETOOLONG;
+    let whole = os::errno() != libc::ENAMETOOLONG;
     let moods = &script[..n];
-    if wishes.good & known & moods::can_end(moods) {
+    let wishes = arguments::wished(moods, whole);
+    if wishes.good {
         start(wishes, moods);
-    } else {
-        account::help();
     }
 }
 

@@ -1,4 +1,4 @@
-// The script of the stream's moods: a character for each write, over and over.
+// The script of the stream's moods: a character for each write that is due, over and over.
 
 // As it comes.
 const ANY: u8 = b'.';
@@ -24,6 +24,7 @@ fn is_mood(m: u8) -> bool {
     (m == ANY) | (m == PAUSE) | ((b'0' < m) & (m <= b'9'))
 }
 
+// The mood at a place of the script; without a script the stream is as it comes.
 pub fn mood(moods: &[u8], at: usize) -> u8 {
     if at < moods.len() {
         return moods[at];
@@ -31,11 +32,19 @@ pub fn mood(moods: &[u8], at: usize) -> u8 {
     ANY
 }
 
+// The place after a write: the first again after the last.
 pub fn next(at: usize, moods: usize) -> usize {
     if at < moods {
-        return at + 1;
+        return wrapped(at + 1, moods);
     }
     0
+}
+
+fn wrapped(at: usize, moods: usize) -> usize {
+    if at == moods {
+        return 0;
+    }
+    at
 }
 
 // How many bytes, of all, the stream takes at most: 1 to 9 where the mood is a digit.

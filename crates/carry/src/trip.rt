@@ -22,13 +22,15 @@ pub struct Trip {
     pub sent: u32,
     pub alloc: u32,
     pub heard: u32,
+    // Without credit it has asked for news, and not heard yet.
+    pub asked: bool,
     // The input has ended; the connection has been reset; a call was refused.
     pub ended: bool,
     pub over: bool,
     pub refused: u8,
     // The input could not be read.
     pub unread: bool,
-    // Which mood the stream is in.
+    // The place in the script of moods.
     pub writes: usize,
     pub packets: u64,
     pub bytes_in: u64,
@@ -59,6 +61,7 @@ pub fn opened(size: u32) -> Trip {
         sent: 0,
         alloc: 0,
         heard: 0,
+        asked: false,
         ended: false,
         over: false,
         refused: 0,

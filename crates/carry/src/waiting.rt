@@ -1,0 +1,30 @@
+// Waiting for a stream that would block. There is no `poll` here, but what starts the program has
+// one (scripts/carry): it is asked with a letter, and answers when that stream is ready.
+const ASK: i32 = 3;
+
+const ANSWER: i32 = 4;
+
+pub fn for_input() {
+    wait(b"r");
+}
+
+pub fn for_output() {
+    wait(b"w");
+}
+
+// Where nobody is there to ask, the processor goes to others first.
+fn wait(side: &[u8]) {
+    let mut answer = [0u8; 1];
+    let asked = libc::write(ASK, side);
+    if asked == 1 {
+        libc::read(ANSWER, &mut answer);
+    } else {
+        libc::sched_yield();
+    }
+}
+
+// The last call on a stream failed because it would have had to wait, or was interrupted.
+pub fn would_block() -> bool {
+    let error = os::errno();
+    (error == libc::EAGAIN) | (error == libc::EINTR)
+}
