@@ -6,7 +6,8 @@ set -eu
 cd "$(dirname "$0")/.."
 seed=${1:-1} calls=${2:-50000}
 dir=target/oracle
-for tool in objdump:binutils valgrind:valgrind; do scripts/need "${tool%:*}" "${tool#*:}"; done
+scripts/need objdump binutils 'it says which lines have code'
+scripts/need valgrind valgrind 'it says which of them were executed'
 PATH=$PATH:${HOME:-}/.cargo/bin
 
 mkdir -p $dir
