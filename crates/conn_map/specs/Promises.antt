@@ -16,12 +16,13 @@ abbrev pub NoTwoAlike : List ℕ → List ℕ → Type 0
 NoTwoAlike ports used =
     (i j : ℕ) → i < j → j < length ports → usedAt used i ≡ true → usedAt used j ≡ true → keyOf (getD ports i 0) ≡ keyOf (getD ports j 0) → ⊥
 
--- the test of a table says what 01 says: 1 to 512 slots, the slices equally long, no two used slots with the same ports
+-- a table is sound: 1 to 512 slots, the slices equally long, no two used slots with the same ports
+abbrev pub Sound : List ℕ → List ℕ → ℕ → Type 0
+Sound ports used marks = (1 ≤ length ports) × (length ports ≤ 512) × (length used ≡ length ports) × (marks ≡ length ports) × NoTwoAlike ports used
+
+-- its test says just that
 abbrev pub SoundMeans : Type 0
-SoundMeans =
-    (ports used : List ℕ) (marks : ℕ)
-    → Exactly (soundTable ports used marks ≡ true)
-    ((1 ≤ length ports) × (length ports ≤ 512) × (length used ≡ length ports) × (marks ≡ length ports) × NoTwoAlike ports used)
+SoundMeans = (ports used : List ℕ) (marks : ℕ) → Exactly (soundTable ports used marks ≡ true) (Sound ports used marks)
 
 -- what the slots that pass a test give is in slot order
 abbrev pub GatheredInOrder : Type 1

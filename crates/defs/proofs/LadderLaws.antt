@@ -1,5 +1,5 @@
 -- The ladder answers number n exactly when row n's test holds and no lower row's. Assumes nothing.
-use Prim.Native.Nat.{ℕ, zero, suc, _<_, _≤_}
+use Prim.Native.Nat.{ℕ, zero, suc, _^_, _<_, _≤_}
 use mathlib.Core.Path.{_≡_, refl, sym, ap, subst, _∙_}
 use mathlib.Core.Logic.{⊎-elim}
 use mathlib.Core.Bool.{Bool, true, false, not}
@@ -20,7 +20,7 @@ use Rattle.defs.specs.declared.stream.StreamAnswer.the-variants.{Count, 
 use Rattle.defs.proofs.ChoiceLaws.{when-true, when-false}
 use Rattle.defs.proofs.AnswerLaws.{NotDone, not-done, is-done, done-is-done, when-done, when-not-done}
 use Rattle.defs.proofs.Basics.{never, lt-or-ge, true-or-false}
-use Rattle.defs.proofs.MeansLaws.{as-is, not-as-is}
+use Rattle.defs.proofs.MeansLaws.{as-is, not-as-is, not-means}
 use Rattle.defs.proofs.LimitLaws.{clock-over}
 
 clash : (b : Bool) → b ≡ false → b ≡ true → ⊥
@@ -147,6 +147,15 @@ pub clock-answers : ClockAnswers
 unfolding clockAnswer
 clock-answers sound ms =
     by-turn (told (clockAnswer sound ms)) (row 1 (not-as-is sound) ∷ row 3 (clock-over ms) ∷ []) (clock-number sound (isClock ms))
+
+-- the same where it is known what the test says
+pub by-record : (t : Told) (sound : Bool) (P : Type 0) → t ≡ told (recordAnswer sound) → Exactly (sound ≡ true) P → AnswersInTurn t ((1, P → ⊥) ∷ [])
+by-record t sound P e m = by-turn t (row 1 (not-means m) ∷ []) (ap (λ (x : Told). x .number) e ∙ record-number sound)
+
+pub by-clock : (t : Told) (sound : Bool) (ms : ℕ) (P : Type 0) → t ≡ told (clockAnswer sound ms) → Exactly (sound ≡ true) P
+    → AnswersInTurn t ((1, P → ⊥) ∷ (3, 2 ^ 62 < ms) ∷ [])
+unfolding clockAnswer
+by-clock t sound ms P e m = by-turn t (row 1 (not-means m) ∷ row 3 (clock-over ms) ∷ []) (ap (λ (x : Told). x .number) e ∙ clock-number sound (isClock ms))
 
 -- ---- for callers: what a part that passed or refused says
 

@@ -2,6 +2,7 @@ pub mod Edges
 pub mod QueueLaws
 pub mod PushLaws
 pub mod SortLaws
+pub mod AnswerLaws
 pub mod OutcomeLaws
 pub mod BuildLaws
 pub mod SoundLaws

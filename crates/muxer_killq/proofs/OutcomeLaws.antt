@@ -23,6 +23,7 @@ use Rattle.conn_map.proofs.OrderLaws.{listed, listed-length, listed-in-order, l
 use Rattle.queue.specs.Queued.{ListLeft, hasRoom, newOf}
 use Rattle.queue.specs.Pop.{popOf}
 use Rattle.queue.proofs.QueueLaws.{queue-is-its-list}
+use Rattle.queue.proofs.AnswerLaws as answers
 use Rattle.queue.proofs.EveryLaws as every
 use Rattle.muxer_killq.specs.Item.{zeroItem, timesApart, isAlike}
 use Rattle.muxer_killq.specs.Queue.{killq, soundQ, items, pack}
@@ -120,8 +121,8 @@ every-push-means i o e g =
     let q = i .queue in
     let it = itemAt (i .key) (i .«kill_time») in
     record {
-      room = λ r. every.push-appends killq lawful q g (pushList it) o e it r (when-true _ _ _ (every.room-has killq lawful q g r));
-      no-room = λ n. every.push-unsyncs killq lawful q g (pushList it) o e (when-false _ _ _ (every.no-room killq lawful q g n));
+      room = λ r. every.push-appends killq lawful q g (pushList it) o e it r (when-true _ _ _ (answers.room-means killq q .1 r));
+      no-room = λ n. every.push-unsyncs killq lawful q g (pushList it) o e (when-false _ _ _ (answers.no-room killq q n));
     }
 
 -- ---- the front

@@ -1,13 +1,14 @@
--- The promises of specs/Promises and specs/Outcomes, each by its law. Assumes nothing.
+-- The promises of specs/Promises, specs/Outcomes and specs/Answers, each by its law. Assumes nothing.
 use Rattle.queue.proofs.QueueLaws as queues
 use Rattle.muxer_killq.specs.Queue.{killq}
-use Rattle.muxer_killq.specs.Promises.{QueueIsItsList, SoundStaysSound, PushAnswers, EverySortIsStable, EdgesHold}
+use Rattle.muxer_killq.specs.Promises.{QueueIsItsList, SoundStaysSound, EverySortIsStable, EdgesHold}
 use Rattle.muxer_killq.specs.Outcomes.{SoundMeans, RefusalsChangeNothing, RefusedIsEmpty, EveryNewIsEmpty, BuiltHolds, EveryPushMeans, EveryPeekMeans, EveryPopMeans, EqualityMeans}
+use Rattle.muxer_killq.specs.Answers.{LookAnswers, NewAnswers, PopAnswers, PushAnswers, BuildAnswers}
+use Rattle.muxer_killq.proofs.AnswerLaws as answers
 use Rattle.muxer_killq.proofs.Edges as edges
 use Rattle.muxer_killq.proofs.OutcomeLaws as outcomes
 use Rattle.muxer_killq.proofs.QueueLaws as laws
 use Rattle.muxer_killq.proofs.QueueLaws.{lawful}
-use Rattle.muxer_killq.proofs.PushLaws as pushes
 use Rattle.muxer_killq.proofs.SoundLaws as sounds
 use Rattle.muxer_killq.proofs.SortLaws as sorts
 
@@ -19,9 +20,6 @@ sound-stays-sound = sounds.sound-stays-sound
 
 pub every-sort-is-stable : EverySortIsStable
 every-sort-is-stable = sorts.every-sort-is-stable
-
-pub push-answers : PushAnswers
-push-answers = pushes.push-answers
 
 pub sound-means : SoundMeans
 sound-means = laws.sound-means
@@ -49,6 +47,21 @@ every-pop-means = outcomes.every-pop-means
 
 pub equality-means : EqualityMeans
 equality-means = outcomes.equality-means
+
+pub look-answers : LookAnswers
+look-answers = answers.look-answers
+
+pub new-answers : NewAnswers
+new-answers = answers.new-answers
+
+pub pop-answers : PopAnswers
+pop-answers = answers.pop-answers
+
+pub push-answers : PushAnswers
+push-answers = answers.push-answers
+
+pub build-answers : BuildAnswers
+build-answers = answers.build-answers
 
 pub edges-hold : EdgesHold
 edges-hold = edges.edges-hold

@@ -1,19 +1,14 @@
 -- Laws of `push`: each end of the call, on the list. Assumes nothing.
 use Prim.Native.Nat.{ℕ, _≤_}
-use mathlib.Core.Path.{_≡_, refl}
-use mathlib.Core.Bool.{Bool, true, false, not}
+use mathlib.Core.Path.{_≡_}
+use mathlib.Core.Bool.{Bool, true, false}
 use mathlib.Core.List.{List, [], _∷_, _++_}
 use lib.ListN.{length}
-use Rattle.defs.specs.Choice.{when}
-use Rattle.defs.specs.Answer.{told}
 use Rattle.defs.specs.declared.answer.Answer.the-variants.{Done, NotQueued}
 use Rattle.defs.proofs.ChoiceLaws.{when-true, when-false, when-holds}
 use Rattle.queue.specs.Queued.{ListLeft, leaves, hasRoom}
 use Rattle.queue.proofs.QueueLaws.{append-within}
-use Rattle.queue.proofs.QueuedLaws.{push-numbers}
-use Rattle.muxer_killq.specs.Queue.{killq, items}
-use Rattle.muxer_killq.specs.Push.{itemAt, pushList}
-use Rattle.muxer_killq.specs.Promises.{PushAnswers}
+use Rattle.muxer_killq.specs.Push.{pushList}
 use Rattle.muxer_killq.specs.declared.item.MuxerKillQItem.{MuxerKillQItem}
 
 module _ (it : MuxerKillQItem) (l : List MuxerKillQItem) (limit : ℕ) (synced : Bool) where
@@ -32,16 +27,3 @@ module _ (it : MuxerKillQItem) (l : List MuxerKillQItem) (limit : ℕ) (synced :
       when-holds (λ (o : ListLeft MuxerKillQItem). length (o .list) ≤ limit) (hasRoom synced (length l) limit) _ _
       (λ t. append-within l it limit synced t)
       (λ t. h)
-
--- ---- which number
-
-by-room : (room : Bool) (a b : ListLeft MuxerKillQItem) → told (a .answer) .number ≡ 0 → told (b .answer) .number ≡ 11 → told (when room a b .answer) .number ≡ when (not room) 11 0
-unfolding when
-by-room true a b e f = e
-by-room false a b e f = f
-
-pub push-answers : PushAnswers
-unfolding pushList
-push-answers i left says =
-    let q = i .queue in
-    push-numbers killq (pushList (itemAt (i .key) (i .«kill_time»))) q _ left says (by-room (hasRoom (q .synced) (length (items q)) (q .limit)) _ _ refl refl)

@@ -29,7 +29,7 @@ zero-alone it e =
     λ i. record { «local_port» = a i; «peer_port» = b i; «kill_time» = d i }
 
 -- K is from 1 to 128
-in-range : (limit : ℕ) → Exactly (isKillqLimit limit ≡ true) ((1 ≤ limit) × (limit ≤ 128))
+pub in-range : (limit : ℕ) → Exactly (isKillqLimit limit ≡ true) ((1 ≤ limit) × (limit ≤ 128))
 unfolding isKillqLimit
 in-range limit = (
   λ e. (let p = both (leb minKillq limit) (leb limit maxKillq) e in (leb-true _ _ (p .0), leb-true _ _ (p .1))),

@@ -7,3 +7,4 @@ pub mod Build
 pub mod Edges
 pub mod Promises
 pub mod Outcomes
+pub mod Answers

@@ -30,10 +30,12 @@ abbrev pub portsOf : MuxerKillQItem → ConnMapKey
 portsOf it = record { «local_port» = it .«local_port»; «peer_port» = it .«peer_port» }
 
 -- sound: K from 1 to 128, the length within it, the zero item in every place from the length on
+abbrev pub Sound : MuxerKillQ → Type 0
+Sound q = (1 ≤ q .limit) × (q .limit ≤ 128) × (q .len ≤ q .limit) × ((n : ℕ) → q .len ≤ n → getD (q .q) n nothing ≡ nothing)
+
+-- its test says just that
 abbrev pub SoundMeans : Type 0
-SoundMeans =
-    (q : MuxerKillQ)
-    → Exactly (soundQ q ≡ true) ((1 ≤ q .limit) × (q .limit ≤ 128) × (q .len ≤ q .limit) × ((n : ℕ) → q .len ≤ n → getD (q .q) n nothing ≡ nothing))
+SoundMeans = (q : MuxerKillQ) → Exactly (soundQ q ≡ true) (Sound q)
 
 -- ---- refusals
 

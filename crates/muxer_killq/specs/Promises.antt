@@ -6,14 +6,13 @@ use mathlib.Core.List.{List, [], _∷_}
 use lib.Dec.{eqb}
 use lib.ListN.{length}
 use Rattle.defs.specs.Answer.{told}
-use Rattle.defs.specs.Promises.{AnswersInTurn}
 use Rattle.defs.specs.Reading.{Hold}
 use Rattle.defs.specs.declared.answer.Answer.the-variants.{Done}
 use Rattle.conn_map.specs.Table.{chosen}
-use Rattle.queue.specs.Queued.{QueuedLeft, pushRows}
+use Rattle.queue.specs.Queued.{QueuedLeft}
 use Rattle.queue.specs.Promises as queues
-use Rattle.muxer_killq.specs.Queue.{killq, soundQ, items, NewSays}
-use Rattle.muxer_killq.specs.Push.{PushIn, PushSays, turnsDown}
+use Rattle.muxer_killq.specs.Queue.{killq, soundQ, NewSays}
+use Rattle.muxer_killq.specs.Push.{PushIn, PushSays}
 use Rattle.muxer_killq.specs.Pop.{PopIn, PopLeft, PopSays}
 use Rattle.muxer_killq.specs.Sort.{sortByTime}
 use Rattle.muxer_killq.specs.Build.{BuildIn, BuildSays}
@@ -31,13 +30,6 @@ pub record SoundStaysSound : Type 0 where
   pub from-conn-map : (i : BuildIn) (left : QueuedLeft MuxerKillQ) → BuildSays i left → left .answer ≡ told Done → soundQ (left .queue) ≡ true
   pub push : (i : PushIn) (left : QueuedLeft MuxerKillQ) → PushSays i left → soundQ (i .queue) ≡ true → soundQ (left .queue) ≡ true
   pub pop : (i : PopIn) (left : PopLeft) → PopSays i left → soundQ (i .queue) ≡ true → soundQ (left .queue) ≡ true
-
--- `push` answers n exactly when row n's test holds and no lower row's: 1 not sound, 11 turned down
-abbrev pub PushAnswers : Type 0
-PushAnswers =
-    (i : PushIn) (left : QueuedLeft MuxerKillQ) → PushSays i left
-    → AnswersInTurn (left .answer)
-    (pushRows (soundQ (i .queue)) (turnsDown (items (i .queue)) (i .queue .limit) (i .queue .synced)))
 
 -- the first item of a list is not earlier than a time
 abbrev pub NotBefore : ℕ → List MuxerKillQItem → Type 0

@@ -1,7 +1,7 @@
 -- `push` (01, "The two queues"). Assumes nothing.
 use Prim.Native.Nat.{ℕ}
 use mathlib.Core.Path.{_≡_}
-use mathlib.Core.Bool.{Bool, false, not}
+use mathlib.Core.Bool.{Bool, false}
 use mathlib.Core.List.{List, [], _∷_, _++_}
 use lib.ListN.{length}
 use Rattle.defs.specs.Choice.{when}
@@ -20,10 +20,6 @@ itemAt key time = record { «local_port» = key .«local_port»; «peer_port» =
 -- synced and not full: append, unsorted. Otherwise turned down, and unsyncs
 unfoldable pub pushList : MuxerKillQItem → List MuxerKillQItem → ℕ → Bool → ListLeft MuxerKillQItem
 pushList it l limit synced = when (hasRoom synced (length l) limit) (leaves Done (l ++ (it ∷ [])) synced) (leaves NotQueued l false)
-
--- 01, answer 11: full or unsynced
-abbrev pub turnsDown : List MuxerKillQItem → ℕ → Bool → Bool
-turnsDown l limit synced = not (hasRoom synced (length l) limit)
 
 pub record PushIn : Type 0 where
   pub queue : MuxerKillQ

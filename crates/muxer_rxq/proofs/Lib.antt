@@ -1,6 +1,7 @@
 pub mod Edges
 pub mod QueueLaws
 pub mod OutcomeLaws
+pub mod AnswerLaws
 pub mod PushLaws
 pub mod BuildLaws
 pub mod SoundLaws

@@ -25,6 +25,7 @@ use Rattle.queue.specs.Queued.{ListLeft, leaves, hasRoom, newOf}
 use Rattle.queue.specs.Pop.{popOf}
 use Rattle.queue.proofs.PlacesLaws.{positive}
 use Rattle.queue.proofs.QueueLaws.{queue-is-its-list, sound-says}
+use Rattle.queue.proofs.AnswerLaws as answers
 use Rattle.queue.proofs.EveryLaws as every
 use Rattle.muxer_rxq.specs.Queue.{zeroItem, rxq, items, pack}
 use Rattle.muxer_rxq.specs.Push.{lastConn, evictList, pushList}
@@ -181,20 +182,20 @@ every-push-means i o e g =
     let l = items q in
     let means = every-last-conn-means l in
     record {
-      room = λ r. every.push-appends rxq lawful q g (pushList (i .rx)) o e (i .rx) r (when-true _ _ _ (every.room-has rxq lawful q g r));
+      room = λ r. every.push-appends rxq lawful q g (pushList (i .rx)) o e (i .rx) r (when-true _ _ _ (answers.room-means rxq q .1 r));
       rst =
           λ n r m t.
           let c : lastConn l ≡ m + 1 = means .some m .1 t in
           every.push-replaces rxq lawful q g (pushList (i .rx)) o e m (i .rx) (omega (arith, t .0, sound-says rxq lawful q (g .0) (g .1) .held))
-          (when-false _ _ _ (every.no-room rxq lawful q g n)
+          (when-false _ _ _ (answers.no-room rxq q n)
           ∙ when-true _ _ _ r
           ∙ when-false _ _ _ (ne-eqb (lastConn l) 0 (λ z. omega arith))
           ∙ ap (λ (k : ℕ). leaves Done (set l k (i .rx)) false) (let z : lastConn l - 1 ≡ m = omega arith in z));
       all-rsts =
           λ n r a.
           every.push-stays rxq lawful q g (pushList (i .rx)) o e
-          (when-false _ _ _ (every.no-room rxq lawful q g n) ∙ when-true _ _ _ r ∙ when-true _ _ _ (eq-eqb _ 0 (means .none .1 a)));
-      connection = λ n r. every.push-unsyncs rxq lawful q g (pushList (i .rx)) o e (when-false _ _ _ (every.no-room rxq lawful q g n) ∙ when-false _ _ _ r);
+          (when-false _ _ _ (answers.no-room rxq q n) ∙ when-true _ _ _ r ∙ when-true _ _ _ (eq-eqb _ 0 (means .none .1 a)));
+      connection = λ n r. every.push-unsyncs rxq lawful q g (pushList (i .rx)) o e (when-false _ _ _ (answers.no-room rxq q n) ∙ when-false _ _ _ r);
     }
 
 -- ---- the front

@@ -1,13 +1,14 @@
--- The promises of specs/Promises and specs/Outcomes, each by its law. Assumes nothing.
+-- The promises of specs/Promises, specs/Outcomes and specs/Answers, each by its law. Assumes nothing.
 use Rattle.queue.proofs.QueueLaws as queues
 use Rattle.muxer_rxq.specs.Queue.{rxq}
-use Rattle.muxer_rxq.specs.Promises.{QueueIsItsList, SoundStaysSound, PushAnswers, EdgesHold}
+use Rattle.muxer_rxq.specs.Promises.{QueueIsItsList, SoundStaysSound, EdgesHold}
 use Rattle.muxer_rxq.specs.Outcomes.{SoundMeans, RefusalsChangeNothing, RefusedIsEmpty, EveryNewIsEmpty, BuiltHolds, EveryLastConnMeans, EveryPushMeans, EveryPeekMeans, EveryPopMeans}
+use Rattle.muxer_rxq.specs.Answers.{LookAnswers, NewAnswers, PopAnswers, PushAnswers, BuildAnswers}
+use Rattle.muxer_rxq.proofs.AnswerLaws as answers
 use Rattle.muxer_rxq.proofs.Edges as edges
 use Rattle.muxer_rxq.proofs.OutcomeLaws as outcomes
 use Rattle.muxer_rxq.proofs.QueueLaws as laws
 use Rattle.muxer_rxq.proofs.QueueLaws.{lawful}
-use Rattle.muxer_rxq.proofs.PushLaws as pushes
 use Rattle.muxer_rxq.proofs.SoundLaws as sounds
 
 pub queue-is-its-list : QueueIsItsList
@@ -15,9 +16,6 @@ queue-is-its-list = queues.queue-is-its-list rxq lawful
 
 pub sound-stays-sound : SoundStaysSound
 sound-stays-sound = sounds.sound-stays-sound
-
-pub push-answers : PushAnswers
-push-answers = pushes.push-answers
 
 pub sound-means : SoundMeans
 sound-means = laws.sound-means
@@ -45,6 +43,21 @@ every-peek-means = outcomes.every-peek-means
 
 pub every-pop-means : EveryPopMeans
 every-pop-means = outcomes.every-pop-means
+
+pub look-answers : LookAnswers
+look-answers = answers.look-answers
+
+pub new-answers : NewAnswers
+new-answers = answers.new-answers
+
+pub pop-answers : PopAnswers
+pop-answers = answers.pop-answers
+
+pub push-answers : PushAnswers
+push-answers = answers.push-answers
+
+pub build-answers : BuildAnswers
+build-answers = answers.build-answers
 
 pub edges-hold : EdgesHold
 edges-hold = edges.edges-hold

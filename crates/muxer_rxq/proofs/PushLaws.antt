@@ -1,7 +1,7 @@
 -- Laws of `push`: the rearmost connection by a falling index, an eviction, and each end of the call. Assumes nothing.
 use Prim.Native.Nat.{ℕ, suc, _+_, _-_, _≤_, _<_}
-use mathlib.Core.Path.{_≡_, refl, ap, sym, _∙_}
-use mathlib.Core.Bool.{Bool, true, false, not, _&&_, _||_}
+use mathlib.Core.Path.{_≡_, ap, sym, _∙_}
+use mathlib.Core.Bool.{Bool, true, false}
 use mathlib.Core.List.{List, [], _∷_, _++_}
 use native.Mathlib.Omega.{arith}
 use borrow.Author.Tests.{ne-eqb, eq-eqb}
@@ -15,10 +15,8 @@ use Rattle.defs.proofs.ChoiceLaws.{when-true, when-false, when-holds}
 use Rattle.queue.specs.Queued.{QueuedLeft, ListLeft, leaves, hasRoom, laid}
 use Rattle.queue.proofs.PlacesLaws.{positive}
 use Rattle.queue.proofs.QueueLaws.{Sound, sound-packed, replaced, append-within}
-use Rattle.queue.proofs.QueuedLaws.{push-numbers}
 use Rattle.muxer_rxq.specs.Queue.{zeroItem, rxq, items}
 use Rattle.muxer_rxq.specs.Push.{lastConn, evictList, pushList}
-use Rattle.muxer_rxq.specs.Promises.{PushAnswers}
 use Rattle.muxer_rxq.specs.declared.rxq.MuxerRx.{MuxerRx}
 use Rattle.muxer_rxq.specs.declared.rxq.MuxerRxQ.{MuxerRxQ}
 use Rattle.muxer_rxq.proofs.QueueLaws.{lawful}
@@ -104,19 +102,3 @@ module _ (rx : MuxerRx) (l : List MuxerRx) (limit : ℕ) (synced : Bool) where
       when-holds (λ (o : ListLeft MuxerRx). length (o .list) ≤ limit) (rx .rst) _ _
       (λ r. when-holds (λ (o : ListLeft MuxerRx). length (o .list) ≤ limit) (eqb (lastConn l) 0) _ _ (λ n. h) (λ n. omega (arith, length-set l (lastConn l - 1) rx)))
       (λ r. h))
-
--- ---- which number
-
-by-tests : (room rst none : Bool) (a b c d : ListLeft MuxerRx) → told (a .answer) .number ≡ 0 → told (b .answer) .number ≡ 11 → told (c .answer) .number ≡ 0 → told (d .answer) .number ≡ 11
-    → told (when room a (when rst (when none b c) d) .answer) .number ≡ when (not room && (not rst || none)) 11 0
-unfolding when
-by-tests true rst none a b c d e f g h = e
-by-tests false true true a b c d e f g h = f
-by-tests false true false a b c d e f g h = g
-by-tests false false none a b c d e f g h = h
-
-pub push-answers : PushAnswers
-unfolding pushList evictList
-push-answers i left says =
-    let q = i .queue in
-    push-numbers rxq (pushList (i .rx)) q _ left says (by-tests (hasRoom (q .synced) (length (items q)) (q .limit)) (i .rx .rst) (eqb (lastConn (items q)) 0) _ _ _ _ refl refl refl refl)

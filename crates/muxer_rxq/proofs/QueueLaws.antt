@@ -24,7 +24,7 @@ zero-alone it e =
     λ i. record { rst = a i; «local_port» = b i; «peer_port» = d i }
 
 -- Q is from 1 to 256
-in-range : (limit : ℕ) → Exactly (isRxqLimit limit ≡ true) ((1 ≤ limit) × (limit ≤ 256))
+pub in-range : (limit : ℕ) → Exactly (isRxqLimit limit ≡ true) ((1 ≤ limit) × (limit ≤ 256))
 unfolding isRxqLimit
 in-range limit = (
   λ e. (let p = both (leb minRxq limit) (leb limit maxRxq) e in (leb-true _ _ (p .0), leb-true _ _ (p .1))),

@@ -23,10 +23,12 @@ abbrev pub nothing : MuxerRx
 nothing = record { rst = false; «local_port» = 0; «peer_port» = 0 }
 
 -- sound: Q from 1 to 256, the length within it, the zero item in every place from the length on
+abbrev pub Sound : MuxerRxQ → Type 0
+Sound q = (1 ≤ q .limit) × (q .limit ≤ 256) × (q .len ≤ q .limit) × ((n : ℕ) → q .len ≤ n → getD (q .q) n nothing ≡ nothing)
+
+-- its test says just that
 abbrev pub SoundMeans : Type 0
-SoundMeans =
-    (q : MuxerRxQ)
-    → Exactly (soundQ q ≡ true) ((1 ≤ q .limit) × (q .limit ≤ 256) × (q .len ≤ q .limit) × ((n : ℕ) → q .len ≤ n → getD (q .q) n nothing ≡ nothing))
+SoundMeans = (q : MuxerRxQ) → Exactly (soundQ q ≡ true) (Sound q)
 
 -- ---- refusals
 

@@ -3,13 +3,12 @@ use Prim.Native.Nat.{ℕ}
 use mathlib.Core.Path.{_≡_}
 use mathlib.Core.Bool.{true}
 use Rattle.defs.specs.Answer.{told}
-use Rattle.defs.specs.Promises.{AnswersInTurn}
 use Rattle.defs.specs.Reading.{Hold}
 use Rattle.defs.specs.declared.answer.Answer.the-variants.{Done}
-use Rattle.queue.specs.Queued.{QueuedLeft, pushRows}
+use Rattle.queue.specs.Queued.{QueuedLeft}
 use Rattle.queue.specs.Promises as queues
-use Rattle.muxer_rxq.specs.Queue.{rxq, soundQ, items, NewSays}
-use Rattle.muxer_rxq.specs.Push.{PushIn, PushSays, turnsDown}
+use Rattle.muxer_rxq.specs.Queue.{rxq, soundQ, NewSays}
+use Rattle.muxer_rxq.specs.Push.{PushIn, PushSays}
 use Rattle.muxer_rxq.specs.Pop.{PopLeft, PopSays}
 use Rattle.muxer_rxq.specs.Build.{BuildIn, BuildSays}
 use Rattle.muxer_rxq.specs.Edges.{readingJ, builds}
@@ -25,13 +24,6 @@ pub record SoundStaysSound : Type 0 where
   pub from-conn-map : (i : BuildIn) (left : QueuedLeft MuxerRxQ) → BuildSays i left → left .answer ≡ told Done → soundQ (left .queue) ≡ true
   pub push : (i : PushIn) (left : QueuedLeft MuxerRxQ) → PushSays i left → soundQ (i .queue) ≡ true → soundQ (left .queue) ≡ true
   pub pop : (q : MuxerRxQ) (left : PopLeft) → PopSays q left → soundQ q ≡ true → soundQ (left .queue) ≡ true
-
--- `push` answers n exactly when row n's test holds and no lower row's: 1 not sound, 11 turned down
-abbrev pub PushAnswers : Type 0
-PushAnswers =
-    (i : PushIn) (left : QueuedLeft MuxerRxQ) → PushSays i left
-    → AnswersInTurn (left .answer)
-    (pushRows (soundQ (i .queue)) (turnsDown (items (i .queue)) (i .queue .limit) (i .queue .synced) (i .rx)))
 
 -- 01's readings at the edges of this crate, and builds at the limit
 pub record EdgesHold : Type 0 where

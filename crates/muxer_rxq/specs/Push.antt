@@ -1,7 +1,7 @@
 -- `push` (01, "The two queues"). Assumes nothing.
 use Prim.Native.Nat.{ℕ, _+_, _-_}
 use mathlib.Core.Path.{_≡_}
-use mathlib.Core.Bool.{Bool, false, not, _&&_, _||_}
+use mathlib.Core.Bool.{Bool, false}
 use mathlib.Core.List.{List, [], _∷_, _++_}
 use lib.Dec.{eqb}
 use lib.ListN.{length, set}
@@ -28,10 +28,6 @@ pushList rx l limit synced =
     when (hasRoom synced (length l) limit)
     (leaves Done (l ++ (rx ∷ [])) synced)
     (when (rx .rst) (evictList rx l synced) (leaves NotQueued l false))
-
--- 01, answer 11: no room, and a connection, or an RST that finds no connection to replace
-abbrev pub turnsDown : List MuxerRx → ℕ → Bool → MuxerRx → Bool
-turnsDown l limit synced rx = not (hasRoom synced (length l) limit) && (not (rx .rst) || eqb (lastConn l) 0)
 
 pub record PushIn : Type 0 where
   pub queue : MuxerRxQ

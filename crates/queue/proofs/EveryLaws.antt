@@ -5,7 +5,7 @@ use mathlib.Core.Logic.{⊎-elim}
 use mathlib.Core.Bool.{Bool, true, false}
 use mathlib.Core.List.{List, [], _∷_, _++_}
 use native.Mathlib.Omega.{arith}
-use borrow.Author.Tests.{le-leb, lt-ltb, ltb-true}
+use borrow.Author.Tests.{le-leb}
 use lib.ListN.{length, getD, set, drop, replicate, length-append, length-replicate}
 use lib.Seq.{getD-drop}
 use Rattle.defs.specs.Choice.{when}
@@ -18,11 +18,11 @@ use Rattle.defs.proofs.Basics.{both, never, true-or-false}
 use Rattle.defs.proofs.AnswerLaws.{is-done, number-zero, when-done, when-not-done, left-kept}
 use Rattle.defs.proofs.ChoiceLaws.{when-holds}
 use Rattle.queue.specs.Queue.{Queue, Kind, Lawful, all, padded, clearQ, soundQ, items, pack, holding, frontGone}
-use Rattle.queue.specs.Queued.{QueuedLeft, ListLeft, leaves, hasRoom, madeOf, newOf, laid, pushOf}
+use Rattle.queue.specs.Queued.{QueuedLeft, ListLeft, leaves, madeOf, newOf, laid, pushOf}
 use Rattle.queue.specs.Look.{PeekLeft, peekList, peekOf}
 use Rattle.queue.specs.Pop.{PopLeft, popList, popOf}
 use Rattle.queue.specs.Promises.{RefusalKeeps}
-use Rattle.queue.specs.Means.{placeOf, SoundMeans, Given, EmptyOf, Room, Appends, Replaces, Unsyncs, PeekMeans, PopMeans}
+use Rattle.queue.specs.Means.{placeOf, Sound as SoundIn, SoundMeans, Given, EmptyOf, Room, Appends, Replaces, Unsyncs, PeekMeans, PopMeans}
 use Rattle.queue.proofs.QueueLaws.{Sound, parts, sound-says, packed, synced-anew, sound-packed, appended, replaced}
 
 -- ---- places past the items
@@ -64,7 +64,7 @@ module _ {A : Type 0} (test : A → Bool) (z : A) (passes : test z ≡ true) (al
 
 module _ {Q A : Type 0} (k : Kind Q A) where
   pub sound-means : k .isZero (k .zeroItem) ≡ true → ((x : A) → k .isZero x ≡ true → x ≡ k .zeroItem) → (least most : ℕ)
-      → ((limit : ℕ) → Exactly (k .isLimit limit ≡ true) ((least ≤ limit) × (limit ≤ most))) → SoundMeans k least most
+      → ((limit : ℕ) → Exactly (k .isLimit limit ≡ true) ((least ≤ limit) × (limit ≤ most))) → SoundMeans k (SoundIn k least most)
   unfolding soundQ clearQ
   sound-means passes alone least most range q = (
     λ e.
@@ -214,20 +214,6 @@ module _ {Q A : Type 0} (k : Kind Q A) (w : Lawful k) where
 
     -- one item more
 
-    pub room-has : Room k q → hasRoom (k .seen q .synced) (length (items k q)) (k .seen q .limit) ≡ true
-    unfolding hasRoom
-    room-has r = rw (r .0) (lt-ltb (length (items k q)) (k .seen q .limit) (let h = r .1 in omega (arith, s .held)))
-
-    pub no-room : (Room k q → ⊥) → hasRoom (k .seen q .synced) (length (items k q)) (k .seen q .limit) ≡ false
-    unfolding hasRoom
-    no-room n =
-        ⊎-elim
-        (λ (t : hasRoom (k .seen q .synced) (length (items k q)) (k .seen q .limit) ≡ true).
-        let p = both (k .seen q .synced) _ t in
-        absurd (n (p .0, (let h = ltb-true (length (items k q)) (k .seen q .limit) (p .1) in omega (arith, s .held)))))
-        (λ (t : hasRoom (k .seen q .synced) (length (items k q)) (k .seen q .limit) ≡ false). t)
-        (true-or-false _)
-
     module _ (push : List A → ℕ → Bool → ListLeft A) (left : QueuedLeft Q) (e : left ≡ pushOf k push q) where
       laid-means : (a : Answer) (l : List A) (synced : Bool) (next : Q) → push (items k q) (k .seen q .limit) (k .seen q .synced) ≡ leaves a l synced → next ≡ holding k q l synced
           → (left .answer .number ≡ told a .number) × (left .queue ≡ next)
@@ -237,7 +223,7 @@ module _ {Q A : Type 0} (k : Kind Q A) (w : Lawful k) where
           (ap (λ (o : QueuedLeft Q). o .answer .number) o, ap (λ (o : QueuedLeft Q). o .queue) o ∙ sym h)
 
       pub push-appends : (x : A) → Room k q → push (items k q) (k .seen q .limit) (k .seen q .synced) ≡ leaves Done (items k q ++ (x ∷ [])) (k .seen q .synced) → Appends k q x left
-      push-appends x r f = laid-means Done _ _ _ f (appended q s x (k .seen q .synced) (let h = r .1 in omega (arith, s .most)))
+      push-appends x r f = laid-means Done _ _ _ f (appended q s x (k .seen q .synced) (let h = r .1 in omega (arith, s .held, s .most)))
 
       pub push-replaces : (n : ℕ) (x : A) → n < k .seen q .len → push (items k q) (k .seen q .limit) (k .seen q .synced) ≡ leaves Done (set (items k q) n x) false → Replaces k q n x left
       push-replaces n x h f = laid-means Done _ _ _ f (replaced q s n x false h)

@@ -1,6 +1,7 @@
 pub mod Edges
 pub mod PlacesLaws
 pub mod QueueLaws
+pub mod AnswerLaws
 pub mod EveryLaws
 pub mod QueuedLaws
 pub mod LookLaws

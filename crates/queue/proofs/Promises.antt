@@ -1,6 +1,7 @@
 -- The promises of specs/Promises, each by its law. Assumes nothing.
-use Rattle.queue.specs.Promises.{EveryQueueIsItsList, SoundStaysSound, EverySoundMeans, EveryMadeIsEmpty, RefusalsChangeNothing, EveryPeekMeans, EveryPopMeans, EdgesHold}
+use Rattle.queue.specs.Promises.{EveryQueueIsItsList, SoundStaysSound, EverySoundMeans, EveryMadeIsEmpty, RefusalsChangeNothing, EveryPeekMeans, EveryPopMeans, EveryLookAnswers, EveryNewAnswers, EdgesHold}
 use Rattle.queue.proofs.Edges as edges
+use Rattle.queue.proofs.AnswerLaws as answers
 use Rattle.queue.proofs.EveryLaws as every
 use Rattle.queue.proofs.QueueLaws as queues
 
@@ -24,6 +25,12 @@ every-peek-means Q A k w q left e g = every.peek-means k w q g left e
 
 pub every-pop-means : EveryPopMeans
 every-pop-means Q A G k w nothing due give Due says q left e g = every.pop-means k w q g nothing due give Due says left e
+
+pub every-look-answers : EveryLookAnswers
+every-look-answers Q A k = answers.look-answers k
+
+pub every-new-answers : EveryNewAnswers
+every-new-answers Q A k = answers.new-answers k
 
 pub edges-hold : EdgesHold
 edges-hold = edges.edges-hold

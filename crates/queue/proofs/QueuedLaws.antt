@@ -1,22 +1,19 @@
--- Laws of the constructors and of a push: each end of the call, and its number. Assumes nothing.
+-- Laws of the constructors and of a push: each end of the call. Assumes nothing.
 use Prim.Native.Nat.{ℕ, _+_, _≤_}
 use mathlib.Core.Path.{_≡_, refl, sym, ap, _∙_}
-use mathlib.Core.Bool.{Bool, true, false, not}
+use mathlib.Core.Bool.{Bool, true, false}
 use mathlib.Core.List.{List, [], _∷_, _++_}
 use native.Mathlib.Omega.{arith}
 use lib.ListN.{length, set}
-use Rattle.defs.specs.Choice.{when}
 use Rattle.defs.specs.Answer.{Told, told, isDone, whenDone}
-use Rattle.defs.specs.Ladder.{doorOf, recordAnswer}
-use Rattle.defs.specs.Promises.{AnswersInTurn}
+use Rattle.defs.specs.Ladder.{recordAnswer}
 use Rattle.defs.specs.declared.answer.Answer.{Answer}
 use Rattle.defs.specs.declared.answer.Answer.the-variants.{Done, NotQueued}
 use Rattle.defs.proofs.AnswerLaws.{NotDone, not-done, when-done, when-not-done, outcome-kept, outcome-done, told-tells-apart}
 use Rattle.defs.proofs.ChoiceLaws.{when-holds}
-use Rattle.defs.proofs.MeansLaws.{as-is, not-as-is}
-use Rattle.defs.proofs.LadderLaws.{firstInTurn, by-turn, row, record-passed}
+use Rattle.defs.proofs.LadderLaws.{record-passed}
 use Rattle.queue.specs.Queue.{Kind, Lawful, soundQ, items, pack}
-use Rattle.queue.specs.Queued.{QueuedLeft, ListLeft, leaves, hasRoom, madeOf, newOf, laid, pushOf, pushRows}
+use Rattle.queue.specs.Queued.{QueuedLeft, ListLeft, leaves, hasRoom, madeOf, newOf, laid, pushOf}
 use Rattle.queue.proofs.QueueLaws.{Sound, sound-past, synced-anew, queue-is-its-list, sound-stays-sound, room-is, room-within, appended}
 
 -- ---- the constructors
@@ -92,18 +89,3 @@ module _ {Q A : Type 0} (k : Kind Q A) (left : QueuedLeft Q) where
         let m = push (items k q) (k .seen q .limit) (k .seen q .synced) in
         ap (λ (o : QueuedLeft Q). soundQ k (o .queue)) e
         ∙ when-holds (λ (o : QueuedLeft Q). soundQ k (o .queue) ≡ true) (isDone (recordAnswer (soundQ k q))) _ _ (λ t. sound-stays-sound k w q (m .list) (m .synced) s h) (λ t. s)
-
--- ---- the number of a push: 1 where the queue isn't sound, 11 where it is turned down
-
-number : {Q : Type 0} (sound down : Bool) (left : QueuedLeft Q) (q : Q) → left .answer .number ≡ when down 11 0
-    → whenDone (recordAnswer sound) left (record { answer = told (recordAnswer sound); queue = q }) .answer .number ≡ firstInTurn ((1, not sound) ∷ (11, down) ∷ [])
-unfolding recordAnswer doorOf whenDone isDone when
-number false down left q e = refl
-number true true left q e = e
-number true false left q e = e
-
-pub push-numbers : {Q A : Type 0} (k : Kind Q A) (push : List A → ℕ → Bool → ListLeft A) (q : Q) (down : Bool) (left : QueuedLeft Q) → left ≡ pushOf k push q
-    → told (push (items k q) (k .seen q .limit) (k .seen q .synced) .answer) .number ≡ when down 11 0 → AnswersInTurn (left .answer) (pushRows (soundQ k q) down)
-unfolding pushOf
-push-numbers k push q down left e f =
-    by-turn (left .answer) (row 1 (not-as-is (soundQ k q)) ∷ row 11 (as-is down) ∷ []) (ap (λ (o : QueuedLeft _). o .answer .number) e ∙ number (soundQ k q) down _ q f)

@@ -5,7 +5,7 @@ use mathlib.Core.Path.{_≡_}
 use mathlib.Core.Bool.{true, false}
 use lib.ListN.{length, getD, set}
 use Rattle.defs.specs.Promises.{Exactly}
-use Rattle.queue.specs.Queue.{Kind, soundQ}
+use Rattle.queue.specs.Queue.{Kind, soundQ, items}
 use Rattle.queue.specs.Queued.{QueuedLeft}
 use Rattle.queue.specs.Look.{PeekLeft}
 use Rattle.queue.specs.Pop.{PopLeft}
@@ -16,11 +16,13 @@ module _ {Q A : Type 0} (k : Kind Q A) where
   placeOf q n = getD (k .seen q .places) n (k .zeroItem)
 
   -- 01: a queue is sound when its limit is in range and its length is within it; places past its length hold the zero item
-  abbrev pub SoundMeans : ℕ → ℕ → Type 0
-  SoundMeans least most =
-      (q : Q)
-      → Exactly (soundQ k q ≡ true)
-      ((least ≤ k .seen q .limit) × (k .seen q .limit ≤ most) × (k .seen q .len ≤ k .seen q .limit) × ((n : ℕ) → k .seen q .len ≤ n → placeOf q n ≡ k .zeroItem))
+  abbrev pub Sound : ℕ → ℕ → Q → Type 0
+  Sound least most q =
+      (least ≤ k .seen q .limit) × (k .seen q .limit ≤ most) × (k .seen q .len ≤ k .seen q .limit) × ((n : ℕ) → k .seen q .len ≤ n → placeOf q n ≡ k .zeroItem)
+
+  -- its test says just that
+  abbrev pub SoundMeans : (Q → Type 0) → Type 0
+  SoundMeans Sound = (q : Q) → Exactly (soundQ k q ≡ true) (Sound q)
 
   -- a sound queue, its array as long as its type says
   abbrev pub Given : Q → Type 0
@@ -37,7 +39,7 @@ module _ {Q A : Type 0} (k : Kind Q A) where
 
   -- synced and not full
   abbrev pub Room : Q → Type 0
-  Room q = (k .seen q .synced ≡ true) × (k .seen q .len < k .seen q .limit)
+  Room q = (k .seen q .synced ≡ true) × (length (items k q) < k .seen q .limit)
 
   -- answer 0: the item stands behind the others, and nothing else moves
   abbrev pub Appends : Q → A → QueuedLeft Q → Type 0

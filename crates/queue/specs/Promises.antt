@@ -13,7 +13,8 @@ use Rattle.queue.specs.Queue.{Kind, Lawful, soundQ, items, pack, holding
 use Rattle.queue.specs.Queued.{QueuedLeft, ListLeft, madeOf, newOf, pushOf}
 use Rattle.queue.specs.Look.{PeekLeft, peekOf}
 use Rattle.queue.specs.Pop.{PopLeft, popOf}
-use Rattle.queue.specs.Means.{SoundMeans, Given, EmptyOf, PeekMeans, PopMeans}
+use Rattle.queue.specs.Means.{Sound, SoundMeans, Given, EmptyOf, PeekMeans, PopMeans}
+use Rattle.queue.specs.Answers.{LookAnswers, NewAnswers}
 use Rattle.queue.specs.Edges.{sounds, packs, pops, rooms}
 
 -- the queue means its list: a list within the limit makes a sound queue that holds it, and a sound queue is the one that its items make
@@ -36,7 +37,7 @@ SoundStaysSound =
 abbrev pub EverySoundMeans : Type 1
 EverySoundMeans =
     (Q A : Type 0) (k : Kind Q A) → Lawful k → (least most : ℕ) → ((limit : ℕ) → Exactly (k .isLimit limit ≡ true) ((least ≤ limit) × (limit ≤ most)))
-    → SoundMeans k least most
+    → SoundMeans k (Sound k least most)
 
 -- a constructor gives an empty, synced queue of its limit; where it is refused, and of a build that is, it is one of limit 0
 pub record EveryMadeIsEmpty : Type 1 where
@@ -64,6 +65,13 @@ abbrev pub EveryPopMeans : Type 1
 EveryPopMeans =
     (Q A G : Type 0) (k : Kind Q A) → Lawful k → (nothing : G) (due : A → Bool) (give : A → G) (Due : A → Type 0) → ((x : A) → Exactly (due x ≡ true) (Due x))
     → (q : Q) (left : PopLeft G Q) → left ≡ popOf k nothing due give Done q → Given k q → PopMeans k Due give nothing q left
+
+-- whatever a queue's test and its limit's test say, the numbers are 01's
+abbrev pub EveryLookAnswers : Type 1
+EveryLookAnswers = (Q A : Type 0) (k : Kind Q A) (Sound : Q → Type 0) → SoundMeans k Sound → LookAnswers k Sound
+
+abbrev pub EveryNewAnswers : Type 1
+EveryNewAnswers = (Q A : Type 0) (k : Kind Q A) (InRange : ℕ → Type 0) → ((limit : ℕ) → Exactly (k .isLimit limit ≡ true) (InRange limit)) → NewAnswers k InRange
 
 -- edges, computed
 pub record EdgesHold : Type 0 where

@@ -1,8 +1,7 @@
 -- The calls that give a queue: the constructors and a push (01, "What comes back", "The two queues"). Assumes nothing.
 use Prim.Native.Nat.{ℕ}
-use mathlib.Core.Path.{_≡_}
-use mathlib.Core.Bool.{Bool, true, false, _&&_}
-use mathlib.Core.List.{List, [], _∷_}
+use mathlib.Core.Bool.{Bool, true, _&&_}
+use mathlib.Core.List.{List, []}
 use lib.Dec.{ltb}
 use Rattle.defs.specs.Answer.{Told, told, whenDone}
 use Rattle.defs.specs.Ladder.{recordAnswer}
@@ -46,7 +45,3 @@ module _ {Q A : Type 0} (k : Kind Q A) where
       whenDone (recordAnswer (soundQ k q))
       (laid q (push (items k q) (k .seen q .limit) (k .seen q .synced)))
       (record { answer = told (recordAnswer (soundQ k q)); queue = q })
-
--- 01's rows of a push: 1 not sound, 11 turned down
-abbrev pub pushRows : Bool → Bool → List (ℕ × Type 0)
-pushRows sound down = (1, sound ≡ false) ∷ (11, down ≡ true) ∷ []
