@@ -6,7 +6,7 @@ use Rattle.defs.specs.Limits.{maxTimeout, isThreshold, isTimeout}
 use Rattle.defs.proofs.Basics.{both}
 use Rattle.defs.proofs.LimitLaws.{timeout-most}
 use Rattle.txbuf.specs.Record.{soundRecord, soundOf}
-use Rattle.txbuf.proofs.RecordLaws.{Sound, sound-says}
+use Rattle.txbuf.proofs.RecordLaws.{Fit, sound-says}
 use Rattle.rules.specs.Record.{okSettings, soundConn, soundOver}
 use Rattle.rules.specs.declared.record.VsockConnection.{VsockConnection}
 
@@ -29,7 +29,7 @@ pub sound-over-ring : (c : VsockConnection) (n : ℕ) → soundOver c n ≡ true
 unfolding soundOver
 sound-over-ring c n e = both (soundOf (c .«tx_buf») n) (okSettings (c .settings) (c .«tx_buf» .size)) e .0
 
-pub sound-over-says : (c : VsockConnection) (n : ℕ) → soundOver c n ≡ true → Sound (c .«tx_buf») n × Timely c
+pub sound-over-says : (c : VsockConnection) (n : ℕ) → soundOver c n ≡ true → Fit (c .«tx_buf») n × Timely c
 unfolding soundOver
 sound-over-says c n e =
     (sound-says (c .«tx_buf») n (sound-over-ring c n e), timely c (c .«tx_buf» .size) (both (soundOf (c .«tx_buf») n) _ e .1))

@@ -15,7 +15,7 @@ use Rattle.defs.proofs.LadderLaws.{lowest-passed, door-passed, late-passed}
 use Rattle.defs.proofs.LimitLaws.{clock-within, packet-length}
 use Rattle.packet.specs.Uapi.{opRw}
 use Rattle.txbuf.specs.Record.{usedOf}
-use Rattle.txbuf.proofs.RecordLaws.{Sound}
+use Rattle.txbuf.proofs.RecordLaws.{Fit}
 use Rattle.txbuf.proofs.PushLaws.{is-ready}
 use Rattle.csm.specs.State.{takes}
 use Rattle.rules.specs.Send.{goesOf, planOf, killsOf, sendDoorOf, sendLate, sendDoor, Killable, Lingers, Carries, SendIn, pktOf, sendPlan, sendAnswer, payload, sendKills}
@@ -37,7 +37,7 @@ in-buffer true false isRw buf len e = (zero-le, zero-le)
 in-buffer false present isRw buf len e = (zero-le, zero-le)
 
 pub record Passed (i : SendIn) : Type 0 where
-  pub sound : Sound (i .conn .«tx_buf») (length (i .store))
+  pub sound : Fit (i .conn .«tx_buf») (length (i .store))
   pub killable : Killable (sendPlan i)
   pub lingers : Lingers (i .conn) (i .clock)
   pub part : sendPlan i .len ≤ length (i .buf)

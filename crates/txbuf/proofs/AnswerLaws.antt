@@ -34,7 +34,7 @@ use Rattle.txbuf.specs.Means.{Sound, firstLength, secondLength, usesFirs
 use Rattle.txbuf.specs.Answers.{pushRows, PushAnswers, NumberedAnswers, FlushAnswers, NewAnswers, LookAnswers}
 use Rattle.txbuf.specs.Outcomes.{RefusalsChangeNothing, NineAndTenChangeNothing}
 use Rattle.txbuf.specs.declared.record.TxBuf.{TxBuf}
-use Rattle.txbuf.proofs.RecordLaws.{sound-means, Sound as SoundNow, sound-says, next-length}
+use Rattle.txbuf.proofs.RecordLaws.{sound-means, Fit, sound-says, next-length}
 
 -- ---- push
 
@@ -87,7 +87,7 @@ numbered-answers i left says = by-push-rows i _ (ap (λ (o : NumberedLeft). o .n
 
 -- what a push that is done says of its record
 pub record Ready (b : TxBuf) (storage bytes : ℕ) : Type 0 where
-  pub sound : SoundNow b storage
+  pub sound : Fit b storage
   pub short : bytes ≤ maxPacket
   pub room : usedOf b + bytes ≤ storage
 
@@ -198,7 +198,7 @@ flush-answers i left says =
     ∙ ap (λ (n : ℕ). firstInTurn ((5, tooMuch b (i .answers)) ∷ (6, ltb (length (i .out)) n) ∷ (10, blocked) ∷ [])) (count-is i)))
 
 -- what an answer that is Done says
-pub sound-done : (i : FlushIn) → flushAnswer i ≡ Done → SoundNow (i .ring) (length (i .store))
+pub sound-done : (i : FlushIn) → flushAnswer i ≡ Done → Fit (i .ring) (length (i .store))
 unfolding flushAnswer recordAnswer
 sound-done i d =
     let r = lowest-passed _ _ (lowest-passed _ _ d .0) .0 in

@@ -6,6 +6,8 @@ use mathlib.Core.Bool.{Bool, true, false, not, _&&_, _||_}
 use mathlib.Core.List.{List, [], _∷_, _++_, append-assoc, append-nil}
 use native.Mathlib.Omega.{arith}
 use native.Mathlib.Nat.{mod-lt, mod-eq-of-lt, mod-add-mod, add-zero}
+use denote.Enum.Declared.{tagOf}
+use types.Run.{OneOf, miss}
 use lib.Dec.{ltb, eqb}
 use lib.ListN.{length, take, drop, length-take, length-drop, length-append, take-append-drop, drop-of-length-le}
 use lib.Seq.{take-all, take-take, take-add, drop-drop, drop-at, length-take-le}
@@ -18,9 +20,10 @@ use Rattle.defs.specs.Ladder.{doorOf, lateOf, lowestOf, recordAnswer}
 use Rattle.defs.specs.Wrapping.{wadd}
 use Rattle.defs.specs.Copying.{copied}
 use Rattle.defs.specs.declared.answer.Answer.{Answer}
-use Rattle.defs.specs.declared.answer.Answer.the-variants.{Done, BadRecord, BadAnswer, NoRoom}
+use Rattle.defs.specs.declared.answer.Answer.the-variants.{Done, BadRecord, BadHeader, BadClock, BadLength, BadAnswer, NoRoom, NoData, PktBufMissing, TxBufFull, StreamBlocked, StreamFailed, NotQueued}
 use Rattle.defs.specs.declared.stream.StreamAnswer.{StreamAnswer}
 use Rattle.defs.specs.declared.stream.StreamAnswer.the-variants.{Count, WouldBlock, Failed}
+use Rattle.defs.proofs.answer.Answer.{the-type}
 use Rattle.defs.proofs.StreamLaws.{NotCount, takes-none, not-count-stops, stopped-takes-none}
 use Rattle.defs.proofs.Basics.{never, lt-or-ge, true-or-false, neither, and-false}
 use Rattle.defs.proofs.ChoiceLaws.{when-true, when-false, when-same}
@@ -33,7 +36,7 @@ use Rattle.txbuf.specs.Flush.{pieceLen, firstPiece, takenBy, overBy, end
 use Rattle.txbuf.specs.Promises.{TakesOldest, FlushTakesOldest, FlushProgresses, FirstPieceIsOldest, UnsoundHasNoPiece, PiecesAreHeld}
 use Rattle.txbuf.specs.declared.record.TxBuf.{TxBuf}
 use Rattle.txbuf.specs.declared.flush.Flushed.{Flushed}
-use Rattle.txbuf.proofs.RecordLaws.{sound-means, Sound, sound-says, is-sound, held-length, used-advanced, next-length}
+use Rattle.txbuf.proofs.RecordLaws.{sound-means, Fit, sound-says, is-sound, held-length, used-advanced, next-length}
 use Rattle.txbuf.proofs.AnswerLaws.{flush-told, sound-done, not-over}
 use Rattle.txbuf.proofs.RingLaws.{held-cong, held-run, held-take, held-drop}
 
@@ -48,7 +51,7 @@ sound-piece : (b : TxBuf) (st : List ℕ) → soundOf b (length st) ≡ true
 unfolding firstPiece
 sound-piece b st s = when-true _ [] _ s
 
-module _ (b : TxBuf) (st : List ℕ) (s : Sound b (length st)) (w : Wide b) where
+module _ (b : TxBuf) (st : List ℕ) (s : Fit b (length st)) (w : Wide b) where
   pub advanced-used : (k : ℕ) → k ≤ usedOf b → usedOf (advanced b k) ≡ usedOf b - k
   advanced-used k l = used-advanced (b .head) (b .tail) k (w .head) (w .tail) l
 
@@ -59,7 +62,7 @@ module _ (b : TxBuf) (st : List ℕ) (s : Sound b (length st)) (w : Wide b) wher
       ∙ held-cong (b .size) (usedOf b - k) st _ _ (keeps-place .sum (b .size) (b .tail) k (s .sized))
       ∙ sym (held-drop (b .size) (usedOf b) k st (b .tail) l)
 
-  pub advanced-sound : (k : ℕ) → k ≤ usedOf b → Sound (advanced b k) (length st)
+  pub advanced-sound : (k : ℕ) → k ≤ usedOf b → Fit (advanced b k) (length st)
   advanced-sound k l =
       let u = advanced-used k l in
       record { sized = s .sized; least = s .least; most = s .most; within = omega arith; whole = s .whole }
@@ -292,28 +295,54 @@ no-room room n e =
 
 -- ---- `finish`, as the code has it
 
-finish-answer : (number n bytes room : ℕ) (a : Answer) → n ≡ number → a ≡ lateOf (eqb n 5) (eqb n 6 || ltb room bytes) → a ≡ finishAnswer number bytes room
-unfolding finishAnswer
-finish-answer number n bytes room a e f = f ∙ ap (λ (x : ℕ). lateOf (eqb x 5) (eqb x 6 || ltb room bytes)) e
+-- the answers of a rest that do not refuse the whole
+abbrev unjudged : List ℕ
+unjudged = 0 ∷ 1 ∷ 2 ∷ 3 ∷ 4 ∷ 7 ∷ 8 ∷ 9 ∷ 10 ∷ 11 ∷ 12 ∷ []
 
-pub finish-kept : (b : TxBuf) (piece out : List ℕ) (number n count : ℕ) (a : Answer) (r : Flushed) → n ≡ number
-    → a ≡ lateOf (eqb n 5) (eqb n 6 || ltb (length out) (length piece)) → NotDone a → r ≡ record { answer = a; count = 0; ring = b }
+module _ (rest : Answer) (bytes room : ℕ) (a : Answer) where
+  pub finish-over : rest ≡ BadAnswer → a ≡ lateOf true (ltb room bytes) → a ≡ finishAnswer (told rest .number) bytes room
+  unfolding finishAnswer
+  finish-over d e = e ∙ ap (λ (x : Answer). finishAnswer (told x .number) bytes room) (sym d)
+
+  pub finish-short : rest ≡ NoRoom → a ≡ lateOf false true → a ≡ finishAnswer (told rest .number) bytes room
+  unfolding finishAnswer
+  finish-short d e = e ∙ ap (λ (x : Answer). finishAnswer (told x .number) bytes room) (sym d)
+
+  pub finish-other : OneOf unjudged (tagOf the-type rest) → a ≡ lateOf false (ltb room bytes) → a ≡ finishAnswer (told rest .number) bytes room
+  unfolding finishAnswer
+  finish-other k e = e ∙ by rest k
+    where
+      by : (x : Answer) → OneOf unjudged (tagOf the-type x) → lateOf false (ltb room bytes) ≡ finishAnswer (told x .number) bytes room
+      by Done k = refl
+      by BadRecord k = refl
+      by BadHeader k = refl
+      by BadClock k = refl
+      by BadLength k = refl
+      by BadAnswer k = absurd (miss unjudged 5 tt k)
+      by NoRoom k = absurd (miss unjudged 6 tt k)
+      by NoData k = refl
+      by PktBufMissing k = refl
+      by TxBufFull k = refl
+      by StreamBlocked k = refl
+      by StreamFailed k = refl
+      by NotQueued k = refl
+
+pub finish-kept : (b : TxBuf) (piece out : List ℕ) (number count : ℕ) (a : Answer) (r : Flushed)
+    → a ≡ finishAnswer number (length piece) (length out) → NotDone a → r ≡ record { answer = a; count = 0; ring = b }
     → _≡_ {A = FlushLeft} (record { answer = told (r .answer); count = r .count; ring = r .ring; out = out }) (finishOf b piece number count out)
 unfolding finishOf
-finish-kept b piece out number n count a r e f k g =
-    let h = finish-answer number n (length piece) (length out) a e f in
+finish-kept b piece out number count a r h k g =
     ap (λ (x : Flushed). record { answer = told (x .answer); count = x .count; ring = x .ring; out = out }) g
     ∙ ap (λ (x : Answer). record { answer = told x; count = 0; ring = b; out = out }) h
     ∙ sym (when-not-done _ _ _ (ap isDone (sym h) ∙ not-done a k))
 
-pub finish-done : (b r : TxBuf) (piece out x : List ℕ) (number n count : ℕ) (a : Answer) → n ≡ number
-    → a ≡ lateOf (eqb n 5) (eqb n 6 || ltb (length out) (length piece)) → a ≡ Done → r ≡ advanced b (length piece + count) → x ≡ copied out piece
+pub finish-done : (b r : TxBuf) (piece out x : List ℕ) (number count : ℕ) (a : Answer)
+    → a ≡ finishAnswer number (length piece) (length out) → a ≡ Done → r ≡ advanced b (length piece + count) → x ≡ copied out piece
     → _≡_ {A = FlushLeft} (record { answer = told a; count = length piece + count; ring = r; out = x }) (finishOf b piece number count out)
 unfolding finishOf
-finish-done b r piece out x number n count a e f d g h =
-    rw (d, g, h) (sym (when-done _ _ _ (sym (finish-answer number n (length piece) (length out) a e f) ∙ d)))
+finish-done b r piece out x number count a e d g h = rw (d, g, h) (sym (when-done _ _ _ (sym e ∙ d)))
 
-module _ (i : FlushIn) (s : Sound (i .ring) (length (i .store))) (w : Wide (i .ring)) where
+module _ (i : FlushIn) (s : Fit (i .ring) (length (i .store))) (w : Wide (i .ring)) where
   abbrev held-now : ℕ
   held-now = usedOf (i .ring)
 
@@ -444,7 +473,7 @@ module _ (i : FlushIn) (s : Sound (i .ring) (length (i .store))) (w : Wide (i .r
       whole-over : flushOver i ≡ flushOver restIn
       whole-over = over-some l ∙ rw (le-ltb offered first-count (let c = ap counted e in omega arith), first-whole, rest-counts-over)
 
-      rest-sound : Sound (advanced (i .ring) k) (length (i .store))
+      rest-sound : Fit (advanced (i .ring) k) (length (i .store))
       rest-sound = advanced-sound (i .ring) (i .store) s w k below-held
 
       rest-room : length (drop (min k (length (i .out))) (i .out)) ≡ length (i .out) - min k (length (i .out))
@@ -606,14 +635,14 @@ pub stopped-left : (i : FlushIn) (a : Answer) (r : Flushed) → r ≡ record { a
 stopped-left i a r e f = ap (λ (x : Flushed). record { answer = told (x .answer); count = x .count; ring = x .ring; out = i .out }) e ∙ f
 
 -- by the length of the first piece: something is held, or nothing
-pub nothing-held : (b : TxBuf) (st : List ℕ) → Sound b (length st) → Wide b → length (firstPiece b st) ≡ 0 → usedOf b ≡ 0
+pub nothing-held : (b : TxBuf) (st : List ℕ) → Fit b (length st) → Wide b → length (firstPiece b st) ≡ 0 → usedOf b ≡ 0
 nothing-held b st s w e =
     ⊎-elim
     (λ (l : 0 < usedOf b). let p = piece-some b st s w l in let m = piece-length b st s w in absurd (omega arith))
     (λ (l : usedOf b ≤ 0). omega arith)
     (lt-or-ge 0 (usedOf b))
 
-pub something-held : (b : TxBuf) (st : List ℕ) → Sound b (length st) → Wide b → (length (firstPiece b st) ≡ 0 → ⊥) → 0 < usedOf b
+pub something-held : (b : TxBuf) (st : List ℕ) → Fit b (length st) → Wide b → (length (firstPiece b st) ≡ 0 → ⊥) → 0 < usedOf b
 something-held b st s w n =
     ⊎-elim (λ (l : 0 < usedOf b). l) (λ (l : usedOf b ≤ 0). let m = piece-length b st s w in absurd (n (omega arith))) (lt-or-ge 0 (usedOf b))
 

@@ -22,7 +22,7 @@ use Rattle.txbuf.specs.Record.{Wide, usedOf, heldFrom, held}
 use Rattle.txbuf.specs.Push.{runs, written, PushIn, PushLeft, pushAnswer, pushAnswerOf, pushDone, pushKept, pushOf}
 use Rattle.txbuf.specs.Promises.{PushAppends}
 use Rattle.txbuf.specs.declared.record.TxBuf.{TxBuf}
-use Rattle.txbuf.proofs.RecordLaws.{Sound, is-sound, used-after}
+use Rattle.txbuf.proofs.RecordLaws.{Fit, is-sound, used-after}
 use Rattle.txbuf.proofs.AnswerLaws.{push-told, Ready, ready}
 use Rattle.txbuf.proofs.RingLaws.{write-cong, held-write, runs-written}
 
@@ -77,7 +77,7 @@ push-left i a h x e d f g = rw (push-is-done i (sym e ∙ d), d, f, g)
 -- ---- a push appends
 
 -- the head lies as many bytes past the tail as are held
-pub head-at : (b : TxBuf) (n : ℕ) → Sound b n → b .tail < 2 ^ 32 → b .head % b .size ≡ (b .tail + usedOf b) % b .size
+pub head-at : (b : TxBuf) (n : ℕ) → Fit b n → b .tail < 2 ^ 32 → b .head % b .size ≡ (b .tail + usedOf b) % b .size
 head-at b n s t = sym (keeps-place .difference (b .size) (b .head) (b .tail) (s .sized) t) ∙ ap (λ (k : ℕ). k % b .size) (let e : usedOf b + b .tail ≡ b .tail + usedOf b = omega arith in e)
 
 push-done-appends : (i : PushIn) → Wide (i .ring) → pushAnswerOf i ≡ Done → held (pushOf i .ring) (pushOf i .store) ≡ held (i .ring) (i .store) ++ i .src

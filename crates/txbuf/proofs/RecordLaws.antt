@@ -18,14 +18,14 @@ use Rattle.defs.proofs.LimitLaws.{ring-size, ring-sizes}
 use Rattle.defs.proofs.MeansLaws.{and-means, within-means, equal-means}
 use Rattle.txbuf.specs.Record.{usedOf, soundRecord, soundOf, heldFrom, held}
 use Rattle.txbuf.specs.Flush.{pieceLen}
-use Rattle.txbuf.specs.Means.{Sound as RingSound, SoundMeans}
+use Rattle.txbuf.specs.Means.{Sound, SoundMeans}
 use Rattle.txbuf.specs.declared.record.TxBuf.{TxBuf}
 
 pub sound-means : SoundMeans
 unfolding soundRecord soundOf
 sound-means = record { alone = alone; over = λ b storage. and-means (alone b) (equal-means storage (b .size)) }
   where
-    alone : (b : TxBuf) → Exactly (soundRecord b ≡ true) (RingSound b)
+    alone : (b : TxBuf) → Exactly (soundRecord b ≡ true) (Sound b)
     alone b =
         let m = and-means (ring-sizes (b .size)) (within-means (usedOf b) (b .size)) in (
           λ e. let p = m .0 e in record { power = p .0 .0; least = p .0 .1; most = p .0 .2; within = p .1 },
@@ -33,14 +33,14 @@ sound-means = record { alone = alone; over = λ b storage. and-means (alone b) (
         )
 
 -- what soundness says, over a storage of n bytes
-pub record Sound (b : TxBuf) (n : ℕ) : Type 0 where
+pub record Fit (b : TxBuf) (n : ℕ) : Type 0 where
   pub sized : isRingSize (b .size) ≡ true
   pub least : minRing ≤ b .size
   pub most : b .size ≤ maxRing
   pub within : usedOf b ≤ b .size
   pub whole : n ≡ b .size
 
-pub sound-says : (b : TxBuf) (n : ℕ) → soundOf b n ≡ true → Sound b n
+pub sound-says : (b : TxBuf) (n : ℕ) → soundOf b n ≡ true → Fit b n
 unfolding soundOf soundRecord
 sound-says b n e =
     let u = both _ _ e in
@@ -48,7 +48,7 @@ sound-says b n e =
     let r = ring-size (b .size) (v .0) in
     record { sized = v .0; least = r .least; most = r .most; within = leb-true _ _ (v .1); whole = eqb-true _ _ (u .1) }
 
-pub is-sound : (b : TxBuf) (n : ℕ) → Sound b n → soundOf b n ≡ true
+pub is-sound : (b : TxBuf) (n : ℕ) → Fit b n → soundOf b n ≡ true
 unfolding soundOf soundRecord
 is-sound b n s = simp (s .sized, le-leb _ _ (s .within), eq-eqb _ _ (s .whole))
 

@@ -4,7 +4,7 @@ ghost use Prim.Native.Nat.{_+_, _≤_};
 ghost use lib.ListN.{length};
 ghost use Rattle.defs.specs.Answer.{told};
 ghost use Rattle.defs.specs.Limits.{maxRing};
-ghost use Rattle.txbuf.specs.Flush.{firstPiece, secondPiece, advanced, finishOf, FlushIn, FlushLeft, FlushSays};
+ghost use Rattle.txbuf.specs.Flush.{firstPiece, secondPiece, advanced, finishAnswer, finishOf, FlushIn, FlushLeft, FlushSays};
 use crate::record::TxBuf;
 use defs::Answer;
 use defs::StreamAnswer;
@@ -101,8 +101,7 @@ fn finish(ring: TxBuf, piece: &[u8], rest: Flushed, out: &mut [u8]) -> Flushed
     ensures { λ r. ⌜ record { answer = told (r .answer); count = r .count; ring = r .ring; out = now (out .exit) } ≡ finishOf ring (now (piece .entry)) (told (rest .answer) .number) (rest .count) (now (out .entry)) ⌝ }
 {
     let of_rest = rest.answer;
-    let number = defs::number_of(of_rest);
-    let answer = defs::late(number == 5, (number == 6) | (out.len() < piece.len()));
+    let answer = finish_answer(of_rest, piece.len(), out.len());
     let Answer::Done = answer else {
         return stopped(answer, ring);
     };
@@ -112,5 +111,17 @@ fn finish(ring: TxBuf, piece: &[u8], rest: Flushed, out: &mut [u8]) -> Flushed
         answer,
         count,
         ring: advance(ring, count),
+    }
+}
+
+// A rest that was refused refuses the whole, and so does an `out` shorter than the piece.
+fn finish_answer(rest: Answer, bytes: usize, room: usize) -> Answer
+    ensures { λ r. ⌜ r ≡ finishAnswer (told rest .number) bytes room ⌝ }
+{
+    let short = room < bytes;
+    match rest {
+        Answer::BadAnswer => defs::late(true, short),
+        Answer::NoRoom => defs::late(false, true),
+        _ => defs::late(false, short),
     }
 }

@@ -6,7 +6,7 @@ use Rattle.defs.specs.Stream.{counted}
 use Rattle.defs.specs.declared.answer.Answer.the-variants.{Done, BadRecord, BadAnswer}
 use Rattle.txbuf.specs.Flush.{pieceLen, FlushIn, finishOf}
 use Rattle.txbuf.specs.declared.flush.Flushed.{Flushed}
-use Rattle.txbuf.proofs.RecordLaws.{Sound, sound-says}
+use Rattle.txbuf.proofs.RecordLaws.{Fit, sound-says}
 use Rattle.txbuf.proofs.FlushLaws.{piece-length, nothing-held, something-held, stopped-left, flush-unsound, flush-empty, flush-stops, flush-bad, flush-short, whole-left, held-falls, rest-small, count-small}
 use borrow.Author.Needs.{needs}
 use native.Mathlib.Omega.{arith}
@@ -50,7 +50,7 @@ given t f =
     let a = f .before .before .before .before .before .args in
     record { ring = a .self; store = now (a .storage); answers = a .answers; out = now (a .out) }
 
-fit : (t : ℕ) (f : After-first-piece t) → Sound (given t f .ring) (length (given t f .store))
+fit : (t : ℕ) (f : After-first-piece t) → Fit (given t f .ring) (length (given t f .store))
 fit t f = sound-says _ _ (sym (f .before .before .is-sound-over .ensures) ∙ f .before .if1 .taken)
 
 wide : (t : ℕ) (f : After-first-piece t) → Wide (given t f .ring)

@@ -5,13 +5,13 @@ use native.Mathlib.Omega.{arith}
 use denote.Ref.{now}
 use lib.ListN.{length}
 use borrow.Author.Needs.{needs}
-use Rattle.txbuf.proofs.RecordLaws.{Sound, sound-says, offset-fits, offset-in, part-within}
+use Rattle.txbuf.proofs.RecordLaws.{Fit, sound-says, offset-fits, offset-in, part-within}
 use Rattle.txbuf.proofs.FlushLaws.{piece-is, no-piece}
 use Rattle.txbuf.proofs.record.TxBuf.first_piece.Statement.{statement}
 use Rattle.txbuf.proofs.record.TxBuf.first_piece.Tie as tie
 
 -- what is known once the ring is sound
-fit : (c : tie.Then1) → let a = c .before .before .before .args in Sound (a .self) (length (now (a .storage)))
+fit : (c : tie.Then1) → let a = c .before .before .before .args in Fit (a .self) (length (now (a .storage)))
 fit c = sound-says _ _ (sym (c .before .is-sound-over .ensures) ∙ c .if1 .taken)
 
 lt-le : {a b : ℕ} → a < b → a ≤ b
