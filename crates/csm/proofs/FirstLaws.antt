@@ -12,7 +12,7 @@ use Rattle.defs.proofs.Basics.{never}
 use Rattle.defs.proofs.MeansLaws.{as-is, not-as-is, not-means, and-means, or-means}
 use Rattle.defs.proofs.LadderLaws.{by-turn, row}
 use Rattle.csm.specs.State.{gives}
-use Rattle.csm.specs.Turn.{readStep, dataStep, updateStep, dataFirst, turnStep, turnReads, hasNothing, lacksBuffer}
+use Rattle.csm.specs.Turn.{readStep, dataStep, updateStep, dataFirst, turnStep, turnReads}
 use Rattle.csm.specs.Row.{rowOf}
 use Rattle.csm.specs.Said.{Turn, answerOf, DataFirst, Reads, UpdateNext, NothingToSay, BufferMissing}
 use Rattle.csm.specs.Promises.{TurnAnswers, LastToldMoves}
@@ -20,7 +20,7 @@ use Rattle.csm.specs.declared.turn.RxStep.the-variants.{Rst, Response, R
 use Rattle.csm.specs.declared.pending.PendingRxSet.{PendingRxSet}
 use Rattle.csm.specs.declared.state.ConnState.{ConnState}
 use Rattle.csm.proofs.MeansLaws.{every-state-means}
-use Rattle.csm.proofs.TurnLaws.{turn-number}
+use Rattle.csm.proofs.TurnLaws.{hasNothing, lacksBuffer, turn-number}
 
 -- a test that means pairs of facts means them in one row
 flat : {X A B C : Type 0} → Exactly X ((A × B) × C) → Exactly X (A × B × C)

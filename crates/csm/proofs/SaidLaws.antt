@@ -16,7 +16,7 @@ use Rattle.defs.proofs.LadderLaws.{firstInTurn}
 use Rattle.csm.specs.Pending.{none, leftOf}
 use Rattle.csm.specs.State.{gives}
 use Rattle.csm.specs.Means.{servesData}
-use Rattle.csm.specs.Turn.{turnStep, dataFirst, hasNothing, lacksBuffer}
+use Rattle.csm.specs.Turn.{turnStep, dataFirst}
 use Rattle.csm.specs.Row.{rowOf}
 use Rattle.csm.specs.Said.{Turn, saidNow, saidBy, rwGone, SevenAndEightAlwaysLeave, SaysFirstPending}
 use Rattle.csm.specs.declared.pending.PendingRxSet.{PendingRxSet}
@@ -25,7 +25,7 @@ use Rattle.csm.specs.declared.turn.RxStep.the-variants.{Rst, Response, R
 use Rattle.csm.specs.declared.state.ConnState.{ConnState}
 use Rattle.csm.specs.declared.timer.Timer.{Timer}
 use Rattle.csm.proofs.MeansLaws.{every-state-means}
-use Rattle.csm.proofs.TurnLaws.{turn-number}
+use Rattle.csm.proofs.TurnLaws.{hasNothing, lacksBuffer, turn-number}
 
 -- a turn of these indications: Rst, Response, Request, Rw, CreditUpdate
 abbrev turn : Bool → Bool → Bool → Bool → Bool → ConnState → Bool → Bool → ReadAnswer → Timer → Timer → Timer → Turn

@@ -14,7 +14,7 @@ use Rattle.defs.proofs.Basics.{and-false}
 use Rattle.defs.proofs.ChoiceLaws.{when-true, when-false}
 use Rattle.defs.proofs.LadderLaws.{firstInTurn}
 use Rattle.csm.specs.State.{gives}
-use Rattle.csm.specs.Turn.{readStep, dataStep, updateStep, dataFirst, turnStep, turnReads, hasNothing, lacksBuffer}
+use Rattle.csm.specs.Turn.{readStep, dataStep, updateStep, dataFirst, turnStep, turnReads}
 use Rattle.csm.specs.Row.{rowOf}
 use Rattle.csm.specs.Promises.{SaysWhatWasRead}
 use Rattle.csm.specs.declared.pending.PendingRxSet.{PendingRxSet}
@@ -25,6 +25,15 @@ use Rattle.csm.specs.declared.turn.RxStep.{RxStep}
 use Rattle.csm.specs.declared.turn.RxStep.the-variants.{Rst, Response, Request, Data, Close, Update, Nothing}
 
 -- ---- what is answered
+
+-- 7: no indication is left but one for data that the stream has not got yet
+unfoldable pub hasNothing : PendingRxSet → ConnState → Bool → Bool → ReadAnswer → Bool
+hasNothing p state noCredit present a =
+    not (p .rst) && not (p .response) && not (p .request) && (not (p .rw) || turnReads p state noCredit present && readBlocks a) && not (p .«credit_update»)
+
+-- 8: data due, credit not 0, no buffer
+unfoldable pub lacksBuffer : PendingRxSet → ConnState → Bool → Bool → Bool
+lacksBuffer p state noCredit present = dataFirst p && gives state && not noCredit && not present
 
 by-answer : (r s q w up noCredit present u : Bool) (a : ReadAnswer)
     → told (rowOf (when r Rst (when s Response (when q Request (when w (dataStep up noCredit present (readStep a (updateStep u))) (updateStep u))))) .answer) .number

@@ -1,8 +1,7 @@
 -- What a turn to speak says (01, `recv_pkt`): the first that is pending, and for data what state, credit, buffer and stream make of it. Assumes nothing.
-use mathlib.Core.Bool.{Bool, not, _&&_, _||_}
+use mathlib.Core.Bool.{Bool, not, _&&_}
 use lib.Dec.{eqb}
 use Rattle.defs.specs.Choice.{when}
-use Rattle.defs.specs.Stream.{readBlocks}
 use Rattle.defs.specs.declared.stream.ReadAnswer.{ReadAnswer}
 use Rattle.defs.specs.declared.stream.ReadAnswer.the-variants.{Count, WouldBlock, Failed}
 use Rattle.csm.specs.State.{gives}
@@ -42,12 +41,3 @@ dataFirst p = not (p .rst) && not (p .response) && not (p .request) && p .rw
 -- the turn reads from the stream: Rw is first, the state gives, credit isn't 0, and there is a buffer
 unfoldable pub turnReads : PendingRxSet → ConnState → Bool → Bool → Bool
 turnReads p state noCredit present = dataFirst p && gives state && not noCredit && present
-
--- answer 7, nothing to say: no indication is left but one for data that the stream has not got yet
-unfoldable pub hasNothing : PendingRxSet → ConnState → Bool → Bool → ReadAnswer → Bool
-hasNothing p state noCredit present a =
-    not (p .rst) && not (p .response) && not (p .request) && (not (p .rw) || turnReads p state noCredit present && readBlocks a) && not (p .«credit_update»)
-
--- answer 8: data due, credit not 0, no buffer
-unfoldable pub lacksBuffer : PendingRxSet → ConnState → Bool → Bool → Bool
-lacksBuffer p state noCredit present = dataFirst p && gives state && not noCredit && not present

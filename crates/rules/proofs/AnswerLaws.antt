@@ -32,11 +32,10 @@ use Rattle.txbuf.specs.Means.{countedNow}
 use Rattle.txbuf.proofs.Promises.{sound-means as ring-means}
 use Rattle.txbuf.proofs.AnswerLaws.{count-is, over-is, tooMuch, too-much-means}
 use Rattle.csm.specs.State.{takes}
-use Rattle.csm.specs.Turn.{hasNothing, lacksBuffer}
 use Rattle.csm.specs.Said.{Reads}
 use Rattle.csm.proofs.Promises.{every-state-means}
 use Rattle.csm.proofs.FirstLaws.{reads-means, nothing-means, buffer-means}
-use Rattle.csm.proofs.TurnLaws.{turn-number}
+use Rattle.csm.proofs.TurnLaws.{hasNothing, lacksBuffer, turn-number}
 use Rattle.rules.specs.Record.{okSettings, soundConn, soundOver, quiet, creditOf}
 use Rattle.rules.specs.Open.{ConnLeft, openAnswer, peerInitOf, localInitOf}
 use Rattle.rules.specs.Look.{ExpiryLeft, StateLeft, EvSetLeft, expiryOf, stateOf, evSetOf, killOf}
