@@ -1,6 +1,6 @@
 -- The one list holds, since each crate's part does. Assumes nothing.
 use mathlib.Core.Path.{refl}
-use mathlib.Core.List.{_++_}
+use mathlib.Core.List.{List, [], _∷_}
 use Rattle.defs.specs.Reading.{Hold}
 use Rattle.defs.specs.Edges.{readingE as ruleE, readingH as formulaH}
 use Rattle.packet.specs.Edges.{readingA as bytesOfA}
@@ -15,35 +15,29 @@ use Rattle.txbuf.proofs.Promises.{edges-hold as txbuf-edges}
 use Rattle.rules.proofs.Promises.{edges-hold as connection-edges}
 use Rattle.muxer_killq.proofs.Promises.{edges-hold as killq-edges}
 use Rattle.muxer_rxq.proofs.Promises.{edges-hold as rxq-edges}
-use Rattle.readings.specs.Readings.{parts, whole, queues, readings, NoneLeftOut, ReadingsHold}
+use Rattle.readings.specs.Readings.{Lettered, lettered, joined, readings, NoneLeftOut, ReadingsHold}
 
 pub none-left-out : NoneLeftOut
-unfolding readings parts whole queues bytesOfA ringBCD ruleE ringF formulaH readingA readingBCD readingE readingF readingG readingH readingI popI readingJ
+unfolding lettered bytesOfA ringBCD ruleE ringF formulaH readingA readingBCD readingE readingF readingG readingH readingI popI readingJ
 none-left-out = refl
 
-parts-hold : Hold parts
-unfolding parts
-parts-hold =
-    hold-append (bytesOfA ++ ringBCD ++ ruleE ++ ringF) formulaH
-    (hold-append (bytesOfA ++ ringBCD ++ ruleE) ringF
-    (hold-append (bytesOfA ++ ringBCD) ruleE (hold-append bytesOfA ringBCD (packet-edges .a) (txbuf-edges .bcd)) (defs-edges .e))
-    (txbuf-edges .f))
-    (defs-edges .h)
+-- each part holds
+abbrev Each : List Lettered → Type 0
+Each [] = Unit
+Each (l ∷ ls) = Hold (l .list) × Each ls
 
-whole-hold : Hold whole
-unfolding whole
-whole-hold =
-    hold-append (readingA ++ readingBCD ++ readingE ++ readingF ++ readingG ++ readingH) readingI
-    (hold-append (readingA ++ readingBCD ++ readingE ++ readingF ++ readingG) readingH
-    (hold-append (readingA ++ readingBCD ++ readingE ++ readingF) readingG
-    (hold-append (readingA ++ readingBCD ++ readingE) readingF
-    (hold-append (readingA ++ readingBCD) readingE (hold-append readingA readingBCD (connection-edges .a) (connection-edges .bcd)) (connection-edges .e))
-    (connection-edges .f))
-    (connection-edges .g))
-    (connection-edges .h))
-    (connection-edges .i)
+hold-joined : (ls : List Lettered) → Each ls → Hold (joined ls)
+hold-joined [] h = tt
+hold-joined (l ∷ ls) h = hold-append (l .list) (joined ls) (h .0) (hold-joined ls (h .1))
+
+infixr 4 _and_
+abbrev _and_ : {P Q : Type 0} → P → Q → P × Q
+_and_ p q = (p, q)
 
 pub readings-hold : ReadingsHold
-unfolding readings queues
+unfolding readings lettered
 readings-hold =
-    hold-append (parts ++ whole) (popI ++ readingJ) (hold-append parts whole parts-hold whole-hold) (hold-append popI readingJ (killq-edges .i) (rxq-edges .j))
+    hold-joined lettered
+    (packet-edges .a and txbuf-edges .bcd and defs-edges .e and txbuf-edges .f and defs-edges .h
+    and connection-edges .a and connection-edges .bcd and connection-edges .e and connection-edges .f and connection-edges .g and connection-edges .h and connection-edges .i
+    and killq-edges .i and rxq-edges .j and tt)

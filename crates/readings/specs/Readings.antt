@@ -1,8 +1,9 @@
 -- 01's starred readings at each edge, in one list: each letter's from the crates that decide it, computed from the specifications.
 -- Assumes nothing.
-use Prim.Native.Nat.{_+_}
+use Prim.Native.Nat.{ℕ}
+use Prim.Native.String.{String}
 use mathlib.Core.Path.{_≡_}
-use mathlib.Core.List.{List, _++_}
+use mathlib.Core.List.{List, [], _∷_, _++_}
 use lib.ListN.{length}
 use Rattle.defs.specs.Reading.{Reading, Hold}
 use Rattle.defs.specs.Edges.{readingE as ruleE, readingH as formulaH}
@@ -12,24 +13,41 @@ use Rattle.rules.specs.Edges.{readingA, readingBCD, readingE, readingF, reading
 use Rattle.muxer_killq.specs.Edges.{readingI as popI}
 use Rattle.muxer_rxq.specs.Edges.{readingJ}
 
--- what the header, the ring and the credit formula say by themselves
-unfoldable pub parts : List Reading
-parts = bytesOfA ++ ringBCD ++ ruleE ++ ringF ++ formulaH
+-- what a crate reads of a letter, or of letters that read on
+pub record Lettered : Type 1 where
+  pub letters : String
+  pub list : List Reading
 
--- what a connection says
-unfoldable pub whole : List Reading
-whole = readingA ++ readingBCD ++ readingE ++ readingF ++ readingG ++ readingH ++ readingI
+infixl 4 _is_
+abbrev pub _is_ : String → List Reading → Lettered
+_is_ letters list = record { letters = letters; list = list }
 
--- what the queues say
-unfoldable pub queues : List Reading
-queues = popI ++ readingJ
+-- what the header, the ring and the credit formula say by themselves, what a connection says, what the queues say
+unfoldable pub lettered : List Lettered
+lettered =
+    ("a" is bytesOfA) ∷ ("bcd" is ringBCD) ∷ ("e" is ruleE) ∷ ("f" is ringF) ∷ ("h" is formulaH)
+    ∷ ("a" is readingA) ∷ ("bcd" is readingBCD) ∷ ("e" is readingE) ∷ ("f" is readingF) ∷ ("g" is readingG) ∷ ("h" is readingH) ∷ ("i" is readingI)
+    ∷ ("i" is popI) ∷ ("j" is readingJ) ∷ []
+
+abbrev pub joined : List Lettered → List Reading
+joined [] = []
+joined (l ∷ ls) = l .list ++ joined ls
 
 unfoldable pub readings : List Reading
-readings = parts ++ whole ++ queues
+readings = joined lettered
 
--- none is left out: of a to f and h in parts 2 + 3 + 3 + 4 + 1; of a to i whole 2 + 6 + 3 + 4 + 2 + 1 + 2; of i's pop 2, of j 5
+-- each letter, and how many readings it has
+abbrev pub counted : List Lettered → List (String × ℕ)
+counted [] = []
+counted (l ∷ ls) = (l .letters, length (l .list)) ∷ counted ls
+
+-- none is left out, and none stands for another
 abbrev pub NoneLeftOut : Type 0
-NoneLeftOut = length readings ≡ 2 + 3 + 3 + 4 + 1 + (2 + 6 + 3 + 4 + 2 + 1 + 2) + (2 + 5)
+NoneLeftOut =
+    counted lettered
+    ≡ ("a", 2) ∷ ("bcd", 3) ∷ ("e", 3) ∷ ("f", 4) ∷ ("h", 1)
+    ∷ ("a", 2) ∷ ("bcd", 7) ∷ ("e", 3) ∷ ("f", 6) ∷ ("g", 2) ∷ ("h", 1) ∷ ("i", 2)
+    ∷ ("i", 2) ∷ ("j", 5) ∷ []
 
 -- every starred reading is what the specifications say
 abbrev pub ReadingsHold : Type 0

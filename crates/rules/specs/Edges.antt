@@ -2,7 +2,7 @@
 use Prim.Native.Nat.{ℕ}
 use mathlib.Core.Bool.{Bool, true, false}
 use mathlib.Core.List.{List, [], _∷_, _++_}
-use lib.ListN.{replicate}
+use lib.ListN.{take, replicate}
 use Rattle.defs.specs.Answer.{told}
 use Rattle.defs.specs.Look.{FlagLeft}
 use Rattle.defs.specs.Reading.{Reading, _reads_}
@@ -14,6 +14,7 @@ use Rattle.packet.specs.Uapi.{opRw, opCreditRequest, typeStream}
 use Rattle.packet.specs.Header.{decoded, encoded}
 use Rattle.packet.specs.Edges.{bytesA}
 use Rattle.txbuf.specs.Record.{held}
+use Rattle.txbuf.specs.Edges.{places, untaken, ten, eleven}
 use Rattle.txbuf.specs.declared.record.TxBuf.{TxBuf}
 use Rattle.csm.specs.Pending.{none}
 use Rattle.csm.specs.declared.timer.Timer.{Timer}
@@ -23,6 +24,7 @@ use Rattle.rules.specs.Record.{creditOf}
 use Rattle.rules.specs.Open.{freshOf, peerInitOf, Opening}
 use Rattle.rules.specs.Look.{hasExpiredOf}
 use Rattle.rules.specs.Notify.{NotifyLeft, notifyOf}
+use Rattle.rules.specs.Offer.{notifyFirst, notifySecond}
 use Rattle.rules.specs.Receive.{RecvLeft, recvOf}
 use Rattle.rules.specs.Send.{SendLeft, sendOf}
 use Rattle.rules.specs.declared.record.VsockConnection.{VsockConnection}
@@ -66,24 +68,29 @@ brings c store taken bytes = sendOf (record {
   out = replicate taken 99;
 })
 
+-- the first 4 of b's 10 bytes
+abbrev taken : List ℕ
+taken = 30 ∷ 31 ∷ 32 ∷ 33 ∷ []
+
 abbrev afterB : SendLeft
-afterB = brings (afterA .conn) (replicate 16 0) 4 (replicate 10 1)
+afterB = brings (afterA .conn) places 4 (taken ++ untaken)
 
 abbrev afterC : SendLeft
-afterC = brings (afterB .conn) (afterB .store) 0 (replicate 10 2)
+afterC = brings (afterB .conn) (afterB .store) 0 ten
 
 abbrev afterD : SendLeft
-afterD = brings (afterB .conn) (afterB .store) 0 (replicate 11 2)
+afterD = brings (afterB .conn) (afterB .store) 0 eleven
 
--- b: 6 held, count 4, no update. c: 16 held. d: killed, 6 held
+-- b: 4 taken, 6 held, count 4, no update. c: 16 held. d: killed, 6 held
 unfoldable pub readingBCD : List Reading
 readingBCD =
-    (held (afterB .conn .«tx_buf») (afterB .store) reads replicate 6 1)
+    (afterB .out reads taken)
+    ∷ (held (afterB .conn .«tx_buf») (afterB .store) reads untaken)
     ∷ (afterB .conn .«fwd_cnt» reads 4)
     ∷ (afterB .conn .«pending_rx» .«credit_update» reads false)
-    ∷ (held (afterC .conn .«tx_buf») (afterC .store) reads replicate 6 1 ++ replicate 10 2)
+    ∷ (held (afterC .conn .«tx_buf») (afterC .store) reads untaken ++ ten)
     ∷ (afterD .conn .state reads Killed)
-    ∷ (held (afterD .conn .«tx_buf») (afterD .store) reads replicate 6 1)
+    ∷ (held (afterD .conn .«tx_buf») (afterD .store) reads untaken)
     ∷ []
 
 -- data of so many bytes, all taken: count minus told is so much, and whether an update is set
@@ -124,23 +131,28 @@ standing tx alloc sent forwarded timer = record {
   expiry = timer;
 }
 
+abbrev beforeF : VsockConnection
+beforeF = standing (record { size = 16; head = 20; tail = 12 }) 100 0 0 Unset
+
 abbrev afterF : NotifyLeft
 afterF = notifyOf (record {
-  conn = standing (record { size = 16; head = 20; tail = 12 }) 100 0 0 Unset;
+  conn = beforeF;
   readable = false;
   writable = true;
-  store = replicate 16 7;
+  store = places;
   answers = record { first = Count 4; second = Failed };
-  out = replicate 8 99;
+  out = take 8 ten;
 })
 
--- f: 4 taken, then failure: 4, tail 16, not killed
+-- f: pieces at 12..16 and 0..4; 4 taken, then failure: 4, tail 16, not killed
 unfoldable pub readingF : List Reading
 readingF =
-    (afterF .conn .«fwd_cnt» reads 4)
+    (notifyFirst beforeF true places reads 12 ∷ 13 ∷ 14 ∷ 15 ∷ [])
+    ∷ (notifySecond beforeF true places reads 0 ∷ 1 ∷ 2 ∷ 3 ∷ [])
+    ∷ (afterF .conn .«fwd_cnt» reads 4)
     ∷ (afterF .conn .«tx_buf» reads record { size = 16; head = 20; tail = 16 })
     ∷ (afterF .conn .state reads Established)
-    ∷ (afterF .out reads replicate 4 7 ++ replicate 4 99)
+    ∷ (afterF .out reads 12 ∷ 13 ∷ 14 ∷ 15 ∷ 54 ∷ 55 ∷ 56 ∷ 57 ∷ [])
     ∷ []
 
 -- h: alloc 10, sent 14, peer fwd 2

@@ -15,17 +15,17 @@ abbrev ring : ℕ → ℕ → TxBuf
 ring head tail = record { size = 16; head = head; tail = tail }
 
 -- a storage whose bytes tell their place
-abbrev places : List ℕ
+abbrev pub places : List ℕ
 places = 0 ∷ 1 ∷ 2 ∷ 3 ∷ 4 ∷ 5 ∷ 6 ∷ 7 ∷ 8 ∷ 9 ∷ 10 ∷ 11 ∷ 12 ∷ 13 ∷ 14 ∷ 15 ∷ []
 
 -- the last 6 of b's 10 bytes, which the stream did not take, c's 10 and d's 11
-abbrev untaken : List ℕ
+abbrev pub untaken : List ℕ
 untaken = 34 ∷ 35 ∷ 36 ∷ 37 ∷ 38 ∷ 39 ∷ []
 
-abbrev ten : List ℕ
+abbrev pub ten : List ℕ
 ten = 50 ∷ 51 ∷ 52 ∷ 53 ∷ 54 ∷ 55 ∷ 56 ∷ 57 ∷ 58 ∷ 59 ∷ []
 
-abbrev eleven : List ℕ
+abbrev pub eleven : List ℕ
 eleven = 49 ∷ ten
 
 -- b's rest goes to an empty ring
