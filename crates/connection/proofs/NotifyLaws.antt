@@ -1,9 +1,11 @@
 -- Laws of `notify`: what follows a flush, and the ends of the call. Assumes nothing.
 use Prim.Native.Nat.{ℕ, _≤_}
-use mathlib.Core.Path.{_≡_, sym, ap, _∙_}
+use mathlib.Core.Path.{_≡_, refl, sym, ap, _∙_}
 use mathlib.Core.Logic.{⊎-elim}
 use mathlib.Core.Bool.{Bool, true, false, _&&_}
-use mathlib.Core.List.{List}
+use mathlib.Core.List.{List, [], _∷_}
+use denote.Enum.Declared.{tagOf}
+use types.Run.{OneOf, miss}
 use lib.ListN.{length}
 use native.Mathlib.Omega.{arith}
 use borrow.Author.Tests.{not-false}
@@ -13,7 +15,8 @@ use Rattle.defs.specs.Answer.{told, isDone}
 use Rattle.defs.specs.Limits.{maxRing}
 use Rattle.defs.specs.Ladder.{recordAnswer}
 use Rattle.defs.specs.declared.answer.Answer.{Answer}
-use Rattle.defs.specs.declared.answer.Answer.the-variants.{Done}
+use Rattle.defs.specs.declared.answer.Answer.the-variants.{Done, BadRecord, BadHeader, BadClock, BadLength, BadAnswer, NoRoom, NoData, PktBufMissing, TxBufFull, StreamBlocked, StreamFailed, NotQueued}
+use Rattle.defs.proofs.answer.Answer.{the-type}
 use Rattle.defs.proofs.Basics.{never, true-or-false}
 use Rattle.defs.proofs.ChoiceLaws.{when-true, when-false}
 use Rattle.defs.proofs.AnswerLaws.{NotDone, not-done, is-done, when-done, when-not-done}
@@ -101,6 +104,26 @@ flush-within i a b left f =
     let s = sound-over-says (i .conn) (length (i .store)) (not-false _ (d .record-ok)) .0 in
     let c = count-small (flushIn i) left (f .says) in
     omega arith
+
+-- what the code knows where no arm of number 10 is taken
+abbrev otherKeys : List ℕ
+otherKeys = 0 ∷ 1 ∷ 2 ∷ 3 ∷ 4 ∷ 5 ∷ 6 ∷ 7 ∷ 8 ∷ 9 ∷ 12 ∷ []
+
+pub not-absorbed : (a : Answer) → OneOf otherKeys (tagOf the-type a) → a ≡ absorbed a
+unfolding absorbed when
+not-absorbed Done k = refl
+not-absorbed BadRecord k = refl
+not-absorbed BadHeader k = refl
+not-absorbed BadClock k = refl
+not-absorbed BadLength k = refl
+not-absorbed BadAnswer k = refl
+not-absorbed NoRoom k = refl
+not-absorbed NoData k = refl
+not-absorbed PktBufMissing k = refl
+not-absorbed TxBufFull k = refl
+not-absorbed StreamBlocked k = absurd (miss otherKeys 10 tt k)
+not-absorbed StreamFailed k = absurd (miss otherKeys 11 tt k)
+not-absorbed NotQueued k = refl
 
 absorbed-done : (a : Answer) → isDone (absorbed a) ≡ false → isDone a ≡ false
 unfolding absorbed isDone when

@@ -89,10 +89,11 @@ fn see(conn: VsockConnection, readable: bool) -> VsockConnection
 fn absorb(answer: Answer) -> Answer
     ensures { λ r. ⌜ r ≡ absorbed answer ⌝ }
 {
-    if defs::number_of(answer) == 10 {
-        return Answer::Done;
+    match answer {
+        Answer::StreamBlocked => Answer::Done,
+        Answer::StreamFailed => Answer::Done,
+        _ => answer,
     }
-    answer
 }
 
 // After a flush. A failed first write kills.

@@ -1,18 +1,21 @@
+-- `absorb` meets its contract, by case.
 use borrow.Author.Needs.{needs}
-use mathlib.Core.Path.{sym, _∙_}
-use borrow.Author.Tests.{eq-eqb, ne-eqb}
-use Rattle.defs.proofs.ChoiceLaws.{when-true, when-false}
+use Rattle.defs.specs.Choice.{when}
 use Rattle.rules.specs.Notify.{absorbed}
+use Rattle.connection.proofs.NotifyLaws.{not-absorbed}
 use Rattle.connection.proofs.event.absorb.Statement.{statement}
 use Rattle.connection.proofs.event.absorb.Tie as tie
 
 returns : tie.Need-returns
-unfolding absorbed
-returns c = sym (when-true _ _ _ (eq-eqb _ 10 (sym (c .before .number-of .ensures) ∙ c .if1 .taken)))
+unfolding absorbed when
+returns c = rw (c .enum-told .given .1)
 
 returns-2 : tie.Need-returns-2
-unfolding absorbed
-returns-2 c = sym (when-false _ _ _ (ne-eqb _ 10 (λ e. c .if1 .left (c .before .number-of .ensures ∙ e))))
+unfolding absorbed when
+returns-2 c = rw (c .enum-told2 .given .1)
+
+returns-3 : tie.Need-returns-3
+returns-3 c = not-absorbed (c .before .args .answer) (c .match .keys3)
 
 pub absorb-spec : {M : Type 1} → statement M
-absorb-spec = tie.close (tie.spec (search needs) returns returns-2)
+absorb-spec = tie.close (tie.spec (search needs) (search needs) returns returns-2 returns-3)
