@@ -8,7 +8,7 @@ use native.Mathlib.Omega.{arith}
 use lib.ListN.{length, take}
 use lib.Seq.{take-all}
 use Rattle.defs.specs.Choice.{when}
-use Rattle.defs.specs.Answer.{isDone}
+use Rattle.defs.specs.Answer.{told, isDone}
 use Rattle.defs.specs.Limits.{isHeaderLength}
 use Rattle.defs.specs.Ladder.{doorOf}
 use Rattle.defs.specs.declared.answer.Answer.{Answer}
@@ -79,7 +79,7 @@ module _ (c : VsockConnection) (storage : ℕ) (hdr : List ℕ) (present : Bool)
 
 pub asks : (c : VsockConnection) (hdr : ℕ) (present : Bool) (buf clock : ℕ) (a : Answer) (passes reads : Bool) (n m : ℕ) → a ≡ recvDoor c hdr present buf clock
     → passes ≡ isDone a → reads ≡ readsOf c present → n ≡ askedOf c buf → m ≡ when (passes && reads) n 0
-    → _≡_ {A = AskedLeft} (record { reads = passes && reads; count = m }) (recvAsked c hdr present buf clock)
+    → _≡_ {A = AskedLeft} (record { answer = told a; reads = passes && reads; count = m }) (recvAsked c hdr present buf clock)
 unfolding recvAsked recvReads
 asks c hdr present buf clock a passes reads n m e f g h j = rw (j, h, f, g, e)
 

@@ -57,7 +57,7 @@ pub record EachCallPinned : Type 0 where
   pub send-writes : Pinned send-writes.Learnt Bool (λ l r e. r)
   pub send-offered : Pinned send-offered.Learnt (List ℕ) (λ l r e. now r)
   pub recv-door : Pinned recv-door.Learnt Told (λ l r e. told r)
-  pub recv-asked : Pinned recv-asked.Learnt AskedLeft (λ l r e. record { reads = r .reads; count = r .count })
+  pub recv-asked : Pinned recv-asked.Learnt AskedLeft (λ l r e. record { answer = told (r .answer); reads = r .reads; count = r .count })
   pub notify-door : Pinned notify-door.Learnt Told (λ l r e. told r)
   pub notify-offered : Pinned notify-offered.Learnt (List ℕ) (λ l r e. now r)
   pub notify-offered-next : Pinned notify-offered-next.Learnt (List ℕ) (λ l r e. now r)

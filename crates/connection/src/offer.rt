@@ -17,8 +17,9 @@ use defs::Answer;
 use packet::Decoded;
 use rules::VsockConnection;
 
-// Whether a turn reads, and for how many bytes it asks: a read may ask for none.
+// Whether a turn reads, and for how many bytes it asks: a read may ask for none. `answer` is of 1 to 4.
 pub struct Asked {
+    pub answer: Answer,
     pub reads: bool,
     pub count: usize,
 }
@@ -104,12 +105,13 @@ pub fn recv_asked(
     buf: &[u8],
     now_ms: u64,
 ) -> Asked
-    ensures { λ r. ⌜ RecvAskedSays (record { conn = conn; hdr = now (hdr .entry); present = present; buf = now (buf .entry); clock = «now_ms» }) (record { reads = r .reads; count = r .count }) ⌝ }
+    ensures { λ r. ⌜ RecvAskedSays (record { conn = conn; hdr = now (hdr .entry); present = present; buf = now (buf .entry); clock = «now_ms» }) (record { answer = told (r .answer); reads = r .reads; count = r .count }) ⌝ }
 {
     let door = door_of(conn, hdr.len(), present, buf.len(), now_ms);
     let reads = is_open(door) & reads(conn, present);
     let asked = defs::smaller(buf.len(), credit(conn) as usize);
     Asked {
+        answer: door,
         reads,
         count: choose(reads, asked),
     }

@@ -27,6 +27,7 @@ abbrev pub sendOffers : SendIn → List ℕ
 sendOffers i = sendOffered (i .conn) (length (i .store)) (i .hdr) (i .present) (i .buf) (i .clock)
 
 pub record AskedLeft : Type 0 where
+  pub answer : Told
   pub reads : Bool
   pub count : ℕ
 
@@ -34,9 +35,13 @@ pub record AskedLeft : Type 0 where
 unfoldable pub recvReads : VsockConnection → ℕ → Bool → ℕ → ℕ → Bool
 recvReads c hdr present buf clock = isDone (recvDoor c hdr present buf clock) && readsOf c present
 
--- and for how many bytes its read asks, which may be none
+-- and for how many bytes its read asks, which may be none; the answer is its door's
 unfoldable pub recvAsked : VsockConnection → ℕ → Bool → ℕ → ℕ → AskedLeft
-recvAsked c hdr present buf clock = record { reads = recvReads c hdr present buf clock; count = when (recvReads c hdr present buf clock) (askedOf c buf) 0 }
+recvAsked c hdr present buf clock = record {
+  answer = told (recvDoor c hdr present buf clock);
+  reads = recvReads c hdr present buf clock;
+  count = when (recvReads c hdr present buf clock) (askedOf c buf) 0;
+}
 
 abbrev pub recvAsks : RecvIn → AskedLeft
 recvAsks i = recvAsked (i .conn) (length (i .hdr)) (i .present) (length (i .buf)) (i .clock)
