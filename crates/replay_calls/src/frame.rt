@@ -1,6 +1,5 @@
 // The frames that calls come in and go out as. A frame is a head of 144 bytes and five runs of
 // bytes, whose lengths stand at its end; oracle/FRAMES.md says what stands where.
-ghost use Rattle.io.specs.Counts.{Counts};
 use defs::Answer;
 use defs::StreamAnswer;
 use defs::limits::MAX_PKT_BUF_SIZE;
@@ -114,20 +113,9 @@ pub fn put_u32(frame: &mut [u8], at: usize, n: u64) {
 
 // ---- runs
 
-// A number of a room's bytes: so many, or all that it has. The contract is what `&room[..n]` asks.
-pub fn fitting(bytes: usize, room: &[u8]) -> usize
-    ensures { λ r. ⌜ Counts r (now (room .entry)) ⌝ }
-{
-    if bytes < room.len() {
-        bytes
-    } else {
-        room.len()
-    }
-}
-
 // Reads a run of so many bytes to the front of its room.
 pub fn fill(bytes: usize, room: &mut [u8]) {
-    let n = fitting(bytes, room);
+    let n = text::fitting(bytes, room);
     io::read_full(0, &mut room[..n]);
 }
 

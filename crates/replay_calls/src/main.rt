@@ -93,11 +93,11 @@ fn cut(
     bytes: &[u8],
     out: &mut [u8],
 ) {
-    let a = frame::fitting(frame::len_at(head, 120), storage);
-    let b = frame::fitting(frame::len_at(head, 124), hdr);
-    let c = frame::fitting(frame::len_at(head, 128), buf);
-    let d = frame::fitting(frame::len_at(head, 132), bytes);
-    let e = frame::fitting(frame::len_at(head, 136), out);
+    let a = text::fitting(frame::len_at(head, 120), storage);
+    let b = text::fitting(frame::len_at(head, 124), hdr);
+    let c = text::fitting(frame::len_at(head, 128), buf);
+    let d = text::fitting(frame::len_at(head, 132), bytes);
+    let e = text::fitting(frame::len_at(head, 136), out);
     call(
         head,
         &mut storage[..a],

@@ -63,7 +63,7 @@ fn whole(bytes: usize) -> usize {
 
 // The places are written up to the last that is not the zero item.
 pub fn write(reply: &mut [u8], places: &[u8]) {
-    let n = frame::fitting(whole(written(places)), places);
+    let n = text::fitting(whole(written(places)), places);
     frame::write(reply, &places[..n], b"", b"", b"", b"");
 }
 
