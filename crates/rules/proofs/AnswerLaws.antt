@@ -1,5 +1,5 @@
 -- Each call of a connection answers by 01's rows. Assumes nothing.
-use Prim.Native.Nat.{ℕ, _^_, _<_}
+use Prim.Native.Nat.{ℕ, _<_}
 use mathlib.Core.Path.{_≡_, refl, sym, ap, _∙_}
 use mathlib.Core.Logic.{_⊎_}
 use mathlib.Core.Bool.{Bool, true, false, not, _&&_, _||_}
@@ -10,10 +10,10 @@ use lib.ListN.{length}
 use borrow.Author.Tests.{le-ltb}
 use Rattle.defs.specs.Choice.{when}
 use Rattle.defs.specs.Answer.{Told, told, isDone, whenDone}
-use Rattle.defs.specs.Ladder.{doorOf, lateOf, lowestOf, recordAnswer, clockAnswer}
+use Rattle.defs.specs.Ladder.{doorOf, lateOf, lowestOf, recordAnswer}
 use Rattle.defs.specs.Look.{FlagLeft, flagOf}
 use Rattle.defs.specs.Limits.{isHeaderLength, isClock, isPacketLength, isRingSize}
-use Rattle.defs.specs.Promises.{Exactly, AnswersInTurn}
+use Rattle.defs.specs.Promises.{Exactly}
 use Rattle.defs.specs.Stream.{counted, readCounted, stoppedBy, stops}
 use Rattle.defs.specs.declared.answer.Answer.{Answer}
 use Rattle.defs.specs.declared.answer.Answer.the-variants.{Done}
@@ -23,7 +23,7 @@ use Rattle.defs.proofs.AnswerLaws.{answer-told}
 use Rattle.defs.proofs.ChoiceLaws.{ap-when}
 use Rattle.defs.proofs.LimitLaws.{limits-mean, ring-sizes, packet-over, clock-over}
 use Rattle.defs.proofs.MeansLaws.{as-is, some-means, same-means, in-words, not-means, and-means, or-means, below-means, equal-means}
-use Rattle.defs.proofs.LadderLaws.{firstInTurn, by-turn, row, ladder-then, lowest-end, record-number, clock-number, stop-number}
+use Rattle.defs.proofs.LadderLaws.{firstInTurn, by-turn, by-record, by-clock, row, ladder-then, lowest-end, stop-number}
 use Rattle.packet.specs.Header.{decoded}
 use Rattle.packet.specs.Uapi.{opRw}
 use Rattle.txbuf.specs.Record.{usedOf, soundRecord, soundOf}
@@ -235,15 +235,6 @@ raw-answers i left says =
     (stoppedBy (i .answers .first)) ((10, stops (i .answers .first)) ∷ []) (stop-number (i .answers .first)))
 
 -- ---- openings, looks and doors
-
--- a call that tests nothing but its record, and one that tests its clock besides
-by-record : (t : Told) (sound : Bool) (P : Type 0) → t ≡ told (recordAnswer sound) → Exactly (sound ≡ true) P → AnswersInTurn t ((1, P → ⊥) ∷ [])
-by-record t sound P e m = by-turn t (row 1 (not-means m) ∷ []) (ap (λ (x : Told). x .number) e ∙ record-number sound)
-
-by-clock : (t : Told) (sound : Bool) (ms : ℕ) (P : Type 0) → t ≡ told (clockAnswer sound ms) → Exactly (sound ≡ true) P
-    → AnswersInTurn t ((1, P → ⊥) ∷ (3, 2 ^ 62 < ms) ∷ [])
-unfolding clockAnswer
-by-clock t sound ms P e m = by-turn t (row 1 (not-means m) ∷ row 3 (clock-over ms) ∷ []) (ap (λ (x : Told). x .number) e ∙ clock-number sound (isClock ms))
 
 pub open-answers : OpenAnswers
 unfolding peerInitOf localInitOf openAnswer

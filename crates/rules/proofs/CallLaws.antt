@@ -29,7 +29,8 @@ use Rattle.packet.specs.declared.hdr.VsockPacketHdr.{VsockPacketHdr}
 use Rattle.txbuf.specs.Record.{usedOf}
 use Rattle.txbuf.specs.declared.record.TxBuf.{TxBuf}
 use Rattle.csm.specs.State.{polls, takes, isLocalInit, bothOff}
-use Rattle.csm.specs.Pending.{marked}
+use Rattle.csm.specs.Pending.{none, isPending, marked}
+use Rattle.csm.specs.declared.pending.PendingRxSet.{PendingRxSet}
 use Rattle.csm.specs.Row.{rowOf}
 use Rattle.csm.specs.Means.{takesData, shutBoth}
 use Rattle.csm.specs.Said.{Said, saidNow, saidBy, numberOf}
@@ -38,12 +39,12 @@ use Rattle.csm.specs.declared.turn.RxStep.{RxStep}
 use Rattle.csm.specs.declared.turn.RxStep.the-variants.{Rst, Response, Request, OutOfState, AskCredit, NoBuffer, Data, Close, Fail, Update, Nothing}
 use Rattle.rules.specs.Record.{Peer, peerOf, quiet, creditOf, withState, killedOf}
 use Rattle.rules.specs.Open.{ConnLeft}
-use Rattle.rules.specs.Look.{lookAnswer, timedAnswer, EvSetLeft, evSetOf, killOf}
+use Rattle.rules.specs.Look.{lookAnswer, timedAnswer, StateLeft, stateOf, ExpiryLeft, expiryOf, EvSetLeft, evSetOf, killOf}
 use Rattle.rules.specs.Raw.{RawLeft, rawAnswer, rawDone, rawKept, rawOf}
 use Rattle.rules.specs.Receive.{RecvIn, RecvLeft, spokenOf, receivedOf, headerOf, recvDoor, recvRefusal, refusalOf, nextStep, recvDone, recvKept, recvOf}
 use Rattle.rules.specs.Send.{heardOf, movedOf, updatedOf, onResponse, onShutdown, onCreditRequest, onData, ruleOf, goesOf, planOf, killsOf, SendIn, SendLeft, pktOf, sendPlan, sendAnswer, sendKills, sendCarried, sendDone, sendKept, sendOf, accepted}
 use Rattle.rules.specs.Notify.{NotifyIn, NotifyLeft, seenOf, settledOf, drainedOf, due, flushed, notifyAnswer, notifyDone, notifyKept, notifyOf}
-use Rattle.rules.specs.Outcomes.{TurnLeaves, HeaderTells, initialised, SevenAndEightLeave, turnOf, headerNow, connNow, EveryTurnLeaves, RefusalsChangeNothing, EverySendHears, meetsData, writesNow, takenNow, killsNow, acceptedNow, EverySendAccepts, fallsShort, UpdateIsDue, KillMeans, EveryKillKills, EveryPollPolls, ExpiryMeans}
+use Rattle.rules.specs.Outcomes.{TurnLeaves, HeaderTells, initialised, SevenAndEightLeave, turnOf, headerNow, connNow, EveryTurnLeaves, RefusalsChangeNothing, EverySendHears, meetsData, writesNow, takenNow, killsNow, acceptedNow, EverySendAccepts, fallsShort, UpdateIsDue, KillMeans, EveryKillKills, EveryPollPolls, ExpiryMeans, LooksTell}
 use Rattle.rules.specs.declared.record.VsockConnection.{VsockConnection}
 use Rattle.rules.specs.declared.plan.SendPlan.{SendPlan}
 
@@ -359,7 +360,7 @@ every-kill-kills c o says n =
     let z : o .conn ≡ killedOf c = ap (λ (x : ConnLeft). x .conn) says ∙ field-done (lookAnswer c) (killedOf c) c (ap (λ (x : ConnLeft). x .answer .number) (sym says) ∙ n) in
     rw z (killed-means c)
 
-some : (n : ℕ) → not (eqb n 0) ≡ leb 1 n
+pub some : (n : ℕ) → not (eqb n 0) ≡ leb 1 n
 some zero = refl
 some (suc n) = ap not (ne-eqb (suc n) 0 (λ e. omega arith)) ∙ sym (le-leb 1 (suc n) (omega arith))
 
@@ -383,4 +384,26 @@ pub expiry-means : ExpiryMeans
 expiry-means = record {
   will = λ i o says n. told-flag (timedAnswer i) _ o _ says n (every-timer-means (i .conn .expiry) (i .clock) .after);
   has = λ i o says n. told-flag (timedAnswer i) _ o _ says n (every-timer-means (i .conn .expiry) (i .clock) .due);
+}
+
+-- the five indications by themselves
+none-of : (request response rst rw update : Bool) → request || response || rst || rw || update ≡ false
+    → _≡_ {A = PendingRxSet} (record { request = request; response = response; rst = rst; rw = rw; «credit_update» = update }) none
+none-of false false false false false e = refl
+none-of false false false false true e = absurd (never (sym e))
+none-of false false false true update e = absurd (never (sym e))
+none-of false false true rw update e = absurd (never (sym e))
+none-of false true rst rw update e = absurd (never (sym e))
+none-of true response rst rw update e = absurd (never (sym e))
+
+pub looks-tell : LooksTell
+unfolding flagOf stateOf expiryOf isPending
+looks-tell = record {
+  pending = λ c o says n.
+      let z : o .holds ≡ isPending (c .«pending_rx») =
+      ap (λ (x : FlagLeft). x .holds) says ∙ field-done (lookAnswer c) _ false (ap (λ (x : FlagLeft). x .answer .number) (sym says) ∙ n) in
+      let p = c .«pending_rx» in
+      (λ e. none-of (p .request) (p .response) (p .rst) (p .rw) (p .«credit_update») (sym z ∙ e), λ e. z ∙ ap isPending e);
+  state = λ c o says n. ap (λ (x : StateLeft). x .state) says ∙ field-done (lookAnswer c) _ _ (ap (λ (x : StateLeft). x .answer .number) (sym says) ∙ n);
+  expiry = λ c o says n. ap (λ (x : ExpiryLeft). x .expiry) says ∙ field-done (lookAnswer c) _ _ (ap (λ (x : ExpiryLeft). x .answer .number) (sym says) ∙ n);
 }

@@ -6,10 +6,10 @@ use mathlib.Core.Bool.{Bool, true, false, not, _&&_, _||_}
 use mathlib.Core.List.{List, _++_}
 use native.Mathlib.Omega.{arith}
 use native.Mathlib.Nat.{div-one, mod-lt}
-use lib.Dec.{ltb, leb, eqb}
+use lib.Dec.{ltb, eqb}
 use lib.ListN.{length, take, drop, length-drop}
 use lib.Seq.{length-take-le}
-use borrow.Author.Tests.{ltb-false, eqb-true, ne-eqb, le-leb, not-true, not-false}
+use borrow.Author.Tests.{ltb-false, eqb-true, ne-eqb, not-true, not-false}
 use Rattle.defs.specs.Answer.{Told, told, isDone, whenDone}
 use Rattle.defs.specs.Promises.{rowAt, FirstInTurn, Refuses}
 use Rattle.defs.specs.Ladder.{doorOf, lateOf, lowestOf}
@@ -44,7 +44,6 @@ use Rattle.csm.specs.Pending.{marked}
 use Rattle.csm.specs.Timer.{later}
 use Rattle.csm.specs.Means.{takesData, shutBoth, answersRequest}
 use Rattle.csm.proofs.Promises.{every-state-means}
-use Rattle.csm.specs.declared.pending.PendingRxSet.{PendingRxSet}
 use Rattle.csm.specs.declared.state.ConnState.{ConnState}
 use Rattle.csm.specs.declared.state.ConnState.the-variants.{LocalInit, PeerInit, Established, LocalClosed, PeerClosed, Killed}
 use Rattle.csm.specs.declared.timer.Timer.{Timer}
@@ -64,7 +63,7 @@ use Rattle.rules.specs.declared.plan.SendPlan.{SendPlan}
 use Rattle.rules.proofs.RecordLaws.{sound-over-ring}
 use Rattle.rules.proofs.AnswerLaws.{notify-told}
 use Rattle.rules.proofs.SendLaws.{passed}
-use Rattle.rules.proofs.CallLaws.{field-kept, every-turn-leaves, send-number, done-left, goes, plan-len, plan-written, kills-now, stays-out, rule-data}
+use Rattle.rules.proofs.CallLaws.{some, field-kept, every-turn-leaves, send-number, done-left, goes, plan-len, plan-written, kills-now, stays-out, rule-data}
 
 -- ---- tables
 
@@ -102,13 +101,6 @@ lingers-is Established r f held = refl
 lingers-is LocalClosed r f held = refl
 lingers-is (PeerClosed a b) r f held = refl
 lingers-is Killed r f held = refl
-
-held-some : (n : ℕ) → leb 1 n ≡ not (eqb n 0)
-held-some zero = refl
-held-some (suc n) = le-leb 1 (suc n) (omega arith) ∙ sym (ap not (ne-eqb (suc n) 0 (λ e. omega arith)))
-
-marked-none : (p : PendingRxSet) → marked p false false false ≡ p
-marked-none p = rw (or-false (p .rst), or-false (p .rw), or-false (p .«credit_update»))
 
 first-part : (a b c d u : Bool) → a ≡ true → c ≡ false → b ≡ u → u ≡ (a && b) || (c && d)
 first-part a b c d u p q r = rw (p, q, r) (sym (or-false u))
@@ -200,7 +192,7 @@ module _ (i : SendIn) where
 
   lingers-now : isEstablished (i .conn .state) && bothOff shut && not (eqb (usedOf (i .conn .«tx_buf»)) 0) ≡ lingersNow i
   lingers-now =
-      rw (div-one (decoded (i .hdr) .flags), held-some (usedOf (i .conn .«tx_buf»)))
+      rw (div-one (decoded (i .hdr) .flags), ← some (usedOf (i .conn .«tx_buf»)))
       (sym (lingers-is (i .conn .state) (shutsReceive i) (shutsSend i) (not (eqb (usedOf (i .conn .«tx_buf»)) 0))))
 
   shutdown-now : onShutdown heard (quiet (i .conn .«tx_buf»)) (decoded (i .hdr) .flags) (i .clock)
@@ -544,7 +536,7 @@ module _ (i : NotifyIn) where
 
   pub due-now : due i ≡ flushesNow i
   unfolding quiet
-  due-now = ap (λ (b : Bool). i .writable && b) (sym (held-some (usedOf ring)))
+  due-now = ap (λ (b : Bool). i .writable && b) (some (usedOf ring))
 
   -- a first write that stops takes nothing
   stopped-row : FirstInTurn (flushRows (flushIn i)) 10 → (0 < usedOf ring) × (stops (i .answers .first) ≡ true)

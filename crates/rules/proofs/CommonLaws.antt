@@ -5,8 +5,8 @@ use mathlib.Core.Logic.{⊎-elim}
 use mathlib.Core.Bool.{Bool, true, false, _&&_}
 use mathlib.Core.List.{List, []}
 use native.Mathlib.Omega.{arith}
-use lib.Dec.{eqb}
-use lib.ListN.{length}
+use lib.Dec.{leb, eqb}
+use lib.ListN.{length, take}
 use borrow.Author.Tests.{ltb-false, eqb-true, not-true}
 use Rattle.defs.specs.Answer.{Told, told, isDone, whenDone}
 use Rattle.defs.specs.Choice.{when}
@@ -20,11 +20,13 @@ use Rattle.defs.specs.declared.stream.ReadAnswer.{ReadAnswer}
 use Rattle.defs.proofs.Basics.{true-or-false, both, neither}
 use Rattle.defs.proofs.AnswerLaws.{number-zero, is-done, when-not-done}
 use Rattle.defs.proofs.LadderLaws.{record-passed}
+use Rattle.defs.specs.Promises.{Exactly}
+use Rattle.defs.proofs.MeansLaws.{same-means, and-means, equal-means}
 use Rattle.defs.proofs.ChoiceLaws.{when-true, when-false, when-holds}
 use Rattle.defs.proofs.Promises.{told-tells-apart, credit-is-free-space}
 use Rattle.packet.specs.Header.{decoded}
 use Rattle.packet.specs.declared.hdr.VsockPacketHdr.{VsockPacketHdr}
-use Rattle.txbuf.specs.Flush.{FlushLeft, flushAnswer}
+use Rattle.txbuf.specs.Flush.{FlushLeft, flushAnswer, firstPiece, secondPiece}
 use Rattle.txbuf.specs.Record.{usedOf}
 use Rattle.txbuf.specs.Means.{bytesHeld, usesSecond, countedNow}
 use Rattle.txbuf.specs.declared.record.TxBuf.{TxBuf}
@@ -41,17 +43,18 @@ use Rattle.rules.specs.Record.{quiet, creditOf}
 use Rattle.rules.specs.Raw.{rawAnswer, rawDone, rawKept, rawOf}
 use Rattle.rules.specs.Receive.{RecvIn, nextStep, readsOf, askedOf, recvRefusal, saidBy, recvDone, recvKept, recvOf}
 use Rattle.rules.specs.Send.{SendIn, SendLeft, planOf, writesOf, pktOf, sendAnswer, sendDone, sendKept, sendOf, accepted}
-use Rattle.rules.specs.Notify.{NotifyIn, NotifyLeft, due, flushIn, flushed, notifyAnswer, notifyDone, notifyKept, notifyOf}
+use Rattle.rules.specs.Notify.{NotifyIn, NotifyLeft, notifyDoor, flushDue, due, flushIn, flushed, notifyAnswer, notifyDone, notifyKept, notifyOf}
 use Rattle.rules.specs.Outcomes.{meetsData, writesNow, takenNow, turnOf}
-use Rattle.rules.specs.Answers.{InRange, Sound, SoundOver}
+use Rattle.rules.specs.Answers.{InRange, Sound, SoundOver, askedNow}
 use Rattle.rules.specs.Moves.{Account, account, Numbers, sendTaken, notifyTaken}
 use Rattle.rules.specs.Leaves.{sendTook, notifyTook, sendAccepted, dataStays, flushesNow, SendLeaves, NotifyLeaves}
-use Rattle.rules.specs.Common.{SoundStaysSound, sentWith, readWith, notifiedWith, withSecond, UnreachedIsIgnored, DataFitsPeer}
+use Rattle.rules.specs.Offer.{AskedLeft, sendWrites, sendOffered, recvReads, recvAsked, notifyFlushes, notifyFirst, notifySecond, rawOffered}
+use Rattle.rules.specs.Common.{asSent, asRead, OffersMean, SoundStaysSound, sentWith, readWith, notifiedWith, withSecond, UnreachedIsIgnored, DataFitsPeer}
 use Rattle.rules.specs.Open.{ConnLeft, freshOf, openAnswer, peerInitOf, localInitOf}
 use Rattle.rules.specs.declared.record.Settings.{Settings}
 use Rattle.rules.specs.declared.record.VsockConnection.{VsockConnection}
 use Rattle.rules.proofs.AnswerLaws.{settings-mean, writes-means, due-means, notify-told}
-use Rattle.rules.proofs.CallLaws.{not-refused, send-number, plan-written, stays-out, met}
+use Rattle.rules.proofs.CallLaws.{some, not-refused, send-number, plan-written, stays-out, met}
 use Rattle.rules.proofs.ChangeLaws.{made-done, due-now, left, within, every-send-leaves, every-notify-leaves}
 use Rattle.rules.proofs.MovesLaws.{receive-keeps, kill-keeps}
 use Rattle.rules.proofs.ReceiveLaws.{asked-at-most, passed}
@@ -249,3 +252,37 @@ took-notified i o says =
     (λ (f : flushesNow i ≡ true). when-true _ _ _ f ∙ sym (left i d f .count) ∙ sym (when-true _ _ _ (due-now i ∙ f)))
     (λ (f : flushesNow i ≡ false). when-false _ _ _ f ∙ sym (when-false _ _ _ (due-now i ∙ f)))
     (true-or-false (flushesNow i)))
+
+-- ---- what a call would offer or ask for
+
+-- a door is passed where its number is 0
+open-means : (a : Answer) (t : Told) → t ≡ told a → Exactly (isDone a ≡ true) (t .number ≡ 0)
+unfolding isDone
+open-means a t e = rw e (equal-means (told a .number) 0)
+
+open-is : (a : Answer) (t : Told) → t ≡ told a → isDone a ≡ eqb (t .number) 0
+unfolding isDone
+open-is a t e = rw e
+
+due-is : (c : VsockConnection) (writable : Bool) → flushDue c writable ≡ writable && leb 1 (usedOf (c .«tx_buf»))
+unfolding quiet
+due-is c writable = ap (λ (b : Bool). writable && b) (some (usedOf (c .«tx_buf»)))
+
+flushes-is : (c : VsockConnection) (writable : Bool) (storage : ℕ) (t : Told) → t ≡ told (notifyDoor c storage)
+    → notifyFlushes c writable storage ≡ eqb (t .number) 0 && (writable && leb 1 (usedOf (c .«tx_buf»)))
+unfolding notifyFlushes
+flushes-is c writable storage t door =
+    ap (λ (b : Bool). b && flushDue c writable) (open-is _ t door) ∙ ap (λ (b : Bool). eqb (t .number) 0 && b) (due-is c writable)
+
+pub offers-mean : OffersMean
+unfolding sendWrites sendOffered recvAsked recvReads notifyFirst notifySecond rawOffered creditOf
+offers-mean = record {
+  writes = λ g t r door says. same-means says (and-means (open-means _ t door) (writes-means (asSent g)));
+  offers = λ g w r writes says. says ∙ ap (λ (b : Bool). when b (take (decoded (g .hdr) .len) (g .buf)) []) (sym writes);
+  asks = λ g o says.
+      same-means (ap (λ (x : AskedLeft). x .reads) says) (and-means (open-means _ (o .answer) (ap (λ (x : AskedLeft). x .answer) says)) (reads-means (turnOf (asRead g))));
+  asked = λ g o says. ap (λ (x : AskedLeft). x .count) says ∙ ap (λ (b : Bool). when b (askedNow (asRead g)) 0) (sym (ap (λ (x : AskedLeft). x .reads) says));
+  first = λ c writable store t r door says. says ∙ ap (λ (b : Bool). when b (firstPiece (c .«tx_buf») store) []) (flushes-is c writable (length store) t door);
+  second = λ c writable store t r door says. says ∙ ap (λ (b : Bool). when b (secondPiece (c .«tx_buf») store) []) (flushes-is c writable (length store) t door);
+  raw = λ c buf t r door says. says ∙ ap (λ (b : Bool). when b buf []) (open-is _ t door);
+}

@@ -1,9 +1,9 @@
 -- The promises of specs/Promises and specs/Answers, Outcomes, Runs and Stories, each by its law. Assumes nothing.
 use Rattle.rules.specs.Promises.{SendMoves, NotifyMoves, SendCountedOff, NotifyCountedOff, NotifyOffersPieces, ReadWithinAsked, ReceiveKeeps, KillKeeps, EdgesHold}
 use Rattle.rules.specs.Answers.{SoundMeans, OpenAnswers, LookAnswers, DoorAnswers, SendAnswers, RecvAnswers, NotifyAnswers, RawAnswers}
-use Rattle.rules.specs.Outcomes.{RefusalsChangeNothing, EverySendHears, EverySendAccepts, UpdateIsDue, EveryTurnLeaves, HeaderTells, SevenAndEightLeave, EveryKillKills, EveryPollPolls, ExpiryMeans}
+use Rattle.rules.specs.Outcomes.{RefusalsChangeNothing, EverySendHears, EverySendAccepts, UpdateIsDue, EveryTurnLeaves, HeaderTells, SevenAndEightLeave, EveryKillKills, EveryPollPolls, ExpiryMeans, LooksTell}
 use Rattle.rules.specs.Leaves.{EverySendLeaves, EveryNotifyLeaves, OpeningMeans, RefusedIsZero, EveryRawLeaves}
-use Rattle.rules.specs.Common.{TimersArm, LastToldMoves, UnreachedIsIgnored, SoundStaysSound, DataFitsPeer}
+use Rattle.rules.specs.Common.{TimersArm, LastToldMoves, UnreachedIsIgnored, SoundStaysSound, OffersMean, DataFitsPeer}
 use Rattle.rules.specs.Runs.{EveryRunForwards, CutsDoNotMatter, FlagsOnlyGrow, Drains}
 use Rattle.rules.specs.Stories.{StoriesHold}
 use Rattle.rules.proofs.Edges as edges
@@ -116,6 +116,12 @@ unreached-is-ignored = common.unreached-is-ignored
 
 pub sound-stays-sound : SoundStaysSound
 sound-stays-sound = common.sound-stays-sound
+
+pub offers-mean : OffersMean
+offers-mean = common.offers-mean
+
+pub looks-tell : LooksTell
+looks-tell = outcomes.looks-tell
 
 pub data-fits-peer : DataFitsPeer
 data-fits-peer = common.data-fits-peer

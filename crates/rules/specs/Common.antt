@@ -1,17 +1,23 @@
 -- What calls have in common, said over what they were given and what they left: timers, what the guest was told, answers that are not reached, soundness,
--- and room at the guest. Assumes nothing.
+-- room at the guest, and what they would offer. Assumes nothing.
 use Prim.Native.Nat.{ℕ, _+_, _-_, _%_, _^_, _<_, _≤_}
 use mathlib.Core.Path.{_≡_}
-use mathlib.Core.Bool.{false}
-use mathlib.Core.List.{List}
-use lib.Dec.{eqb}
-use lib.ListN.{length}
+use mathlib.Core.Bool.{Bool, true, false, _&&_}
+use mathlib.Core.List.{List, []}
+use lib.Dec.{leb, eqb}
+use lib.ListN.{length, take}
 use Rattle.defs.specs.Choice.{when}
-use Rattle.defs.specs.Promises.{Refuses}
+use Rattle.defs.specs.Answer.{Told}
+use Rattle.defs.specs.Promises.{Exactly, Refuses}
 use Rattle.defs.specs.declared.stream.StreamAnswer.{StreamAnswer}
+use Rattle.defs.specs.declared.stream.StreamAnswer.the-variants.{WouldBlock}
+use Rattle.defs.specs.declared.stream.ReadAnswer.the-variants.{WouldBlock as ReadWouldBlock}
 use Rattle.defs.specs.declared.stream.StreamAnswers.{StreamAnswers}
 use Rattle.defs.specs.declared.stream.ReadAnswer.{ReadAnswer}
+use Rattle.packet.specs.Header.{decoded}
 use Rattle.packet.specs.Uapi.{opRequest, opShutdown}
+use Rattle.txbuf.specs.Record.{usedOf}
+use Rattle.txbuf.specs.Flush.{firstPiece, secondPiece}
 use Rattle.txbuf.specs.Means.{usesSecond}
 use Rattle.csm.specs.Said.{Reads, opDue, tellsNow, saidNow}
 use Rattle.csm.specs.declared.timer.Timer.the-variants.{At}
@@ -21,10 +27,11 @@ use Rattle.rules.specs.Receive.{RecvIn, RecvLeft, RecvSays}
 use Rattle.rules.specs.Send.{SendIn, SendLeft, SendSays}
 use Rattle.rules.specs.Notify.{NotifyIn, NotifyLeft, NotifySays}
 use Rattle.rules.specs.Raw.{RawIn, RawLeft, RawSays}
+use Rattle.rules.specs.Offer.{SendGiven, SendDoorSays, SendWritesSays, SendOfferedSays, RecvGiven, AskedLeft, RecvAskedSays, NotifyDoorSays, NotifyOfferedSays, NotifyNextSays, RawDoorSays, RawOfferedSays}
 use Rattle.rules.specs.Moves.{Numbers}
 use Rattle.rules.specs.Outcomes.{turnOf}
 use Rattle.rules.specs.Leaves.{timerNow}
-use Rattle.rules.specs.Answers.{Sound, SoundOver, Writes, Flushes}
+use Rattle.rules.specs.Answers.{Sound, SoundOver, Writes, askedNow, Flushes}
 use Rattle.rules.specs.declared.record.VsockConnection.{VsockConnection}
 
 -- ---- timers, and what the guest was told
@@ -102,3 +109,24 @@ abbrev pub DataFitsPeer : Type 0
 DataFitsPeer =
     (i : RecvIn) (o : RecvLeft) (alloc sent fwd : ℕ) → RecvSays i o → (Refuses (o .answer) → ⊥) → alloc < 2 ^ 32 → fwd ≤ sent → sent - fwd ≤ alloc
     → i .conn .«peer_buf_alloc» ≡ alloc → i .conn .«rx_cnt» ≡ sent % 2 ^ 32 → i .conn .«peer_fwd_cnt» ≡ fwd % 2 ^ 32 → FitsPeer i alloc sent fwd
+
+-- ---- what a call would offer or ask for, before the stream has answered: by the door's number, and by the words of the call itself
+
+-- a packet and a turn as they are before the stream has answered
+abbrev pub asSent : SendGiven → SendIn
+asSent g = record { conn = g .conn; store = g .store; hdr = g .hdr; present = g .present; buf = g .buf; clock = g .clock; answers = record { first = WouldBlock; second = WouldBlock }; out = [] }
+
+abbrev pub asRead : RecvGiven → RecvIn
+asRead g = record { conn = g .conn; hdr = g .hdr; present = g .present; buf = g .buf; clock = g .clock; answer = ReadWouldBlock; read = [] }
+
+pub record OffersMean : Type 0 where
+  pub writes : (g : SendGiven) (t : Told) (r : Bool) → SendDoorSays g t → SendWritesSays g r
+      → Exactly (r ≡ true) ((t .number ≡ 0) × Writes (asSent g))
+  pub offers : (g : SendGiven) (w : Bool) (r : List ℕ) → SendWritesSays g w → SendOfferedSays g r → r ≡ when w (take (decoded (g .hdr) .len) (g .buf)) []
+  pub asks : (g : RecvGiven) (o : AskedLeft) → RecvAskedSays g o → Exactly (o .reads ≡ true) ((o .answer .number ≡ 0) × Reads (turnOf (asRead g)))
+  pub asked : (g : RecvGiven) (o : AskedLeft) → RecvAskedSays g o → o .count ≡ when (o .reads) (askedNow (asRead g)) 0
+  pub first : (c : VsockConnection) (writable : Bool) (store : List ℕ) (t : Told) (r : List ℕ) → NotifyDoorSays c store t → NotifyOfferedSays c writable store r
+      → r ≡ when (eqb (t .number) 0 && (writable && leb 1 (usedOf (c .«tx_buf»)))) (firstPiece (c .«tx_buf») store) []
+  pub second : (c : VsockConnection) (writable : Bool) (store : List ℕ) (t : Told) (r : List ℕ) → NotifyDoorSays c store t → NotifyNextSays c writable store r
+      → r ≡ when (eqb (t .number) 0 && (writable && leb 1 (usedOf (c .«tx_buf»)))) (secondPiece (c .«tx_buf») store) []
+  pub raw : (c : VsockConnection) (buf : List ℕ) (t : Told) (r : List ℕ) → RawDoorSays c buf t → RawOfferedSays c buf r → r ≡ when (eqb (t .number) 0) buf []

@@ -24,7 +24,7 @@ use Rattle.csm.specs.declared.state.ConnState.the-variants.{Killed}
 use Rattle.csm.specs.declared.timer.Timer.the-variants.{At}
 use Rattle.rules.specs.Record.{peerOf, onwardOf, regrouped}
 use Rattle.rules.specs.Open.{ConnLeft}
-use Rattle.rules.specs.Look.{Timed, WillExpireSays, HasExpiredSays, EvSetLeft, EvSetSays, KillSays}
+use Rattle.rules.specs.Look.{PendingSays, Timed, WillExpireSays, HasExpiredSays, ExpiryLeft, ExpirySays, StateLeft, StateSays, EvSetLeft, EvSetSays, KillSays}
 use Rattle.rules.specs.Raw.{RawIn, RawLeft, RawSays}
 use Rattle.rules.specs.Receive.{RecvIn, RecvLeft, RecvSays}
 use Rattle.rules.specs.Send.{SendIn, SendLeft, SendSays, accepted}
@@ -195,3 +195,9 @@ pub record ExpiryMeans : Type 0 where
       → Exactly (o .holds ≡ true) ((time : ℕ) × (i .conn .expiry ≡ At time) × (i .clock < time))
   pub has : (i : Timed) (o : FlagLeft) → HasExpiredSays i o → o .answer .number ≡ 0
       → Exactly (o .holds ≡ true) ((time : ℕ) × (i .conn .expiry ≡ At time) × (time ≤ i .clock))
+
+-- the other looks tell what stands in the record: whether any indication is pending, the state, the timer
+pub record LooksTell : Type 0 where
+  pub pending : (c : VsockConnection) (o : FlagLeft) → PendingSays c o → o .answer .number ≡ 0 → Exactly (o .holds ≡ false) (c .«pending_rx» ≡ none)
+  pub state : (c : VsockConnection) (o : StateLeft) → StateSays c o → o .answer .number ≡ 0 → o .state ≡ c .state
+  pub expiry : (c : VsockConnection) (o : ExpiryLeft) → ExpirySays c o → o .answer .number ≡ 0 → o .expiry ≡ c .expiry
