@@ -12,7 +12,7 @@ use Rattle.defs.specs.Choice.{when}
 use Rattle.defs.specs.Answer.{Told, told, isDone, whenDone}
 use Rattle.defs.specs.Ladder.{doorOf, lateOf, lowestOf, recordAnswer}
 use Rattle.defs.specs.Look.{FlagLeft, flagOf}
-use Rattle.defs.specs.Limits.{isHeaderLength, isClock, isPacketLength, isRingSize}
+use Rattle.defs.specs.Limits.{isHeaderLength, isClock, isPacketLength}
 use Rattle.defs.specs.Promises.{Exactly}
 use Rattle.defs.specs.Stream.{counted, readCounted, stoppedBy, stops}
 use Rattle.defs.specs.declared.answer.Answer.{Answer}
@@ -21,22 +21,21 @@ use Rattle.defs.specs.declared.stream.StreamAnswer.{StreamAnswer}
 use Rattle.defs.specs.declared.stream.StreamAnswer.the-variants.{Count, WouldBlock, Failed}
 use Rattle.defs.proofs.AnswerLaws.{answer-told}
 use Rattle.defs.proofs.ChoiceLaws.{ap-when}
-use Rattle.defs.proofs.LimitLaws.{limits-mean, ring-sizes, packet-over, clock-over}
+use Rattle.defs.proofs.LimitLaws.{limits-mean, packet-over, clock-over}
 use Rattle.defs.proofs.MeansLaws.{as-is, some-means, same-means, in-words, not-means, and-means, or-means, below-means, equal-means}
 use Rattle.defs.proofs.LadderLaws.{firstInTurn, by-turn, by-record, by-clock, row, ladder-then, lowest-end, stop-number}
 use Rattle.packet.specs.Header.{decoded}
 use Rattle.packet.specs.Uapi.{opRw}
-use Rattle.txbuf.specs.Record.{usedOf, soundRecord, soundOf}
+use Rattle.txbuf.specs.Record.{usedOf}
 use Rattle.txbuf.specs.Flush.{endsBy, flushAnswer, flushCount, flushOver}
 use Rattle.txbuf.specs.Means.{countedNow}
-use Rattle.txbuf.proofs.Promises.{sound-means as ring-means}
 use Rattle.txbuf.proofs.AnswerLaws.{count-is, over-is, tooMuch, too-much-means}
 use Rattle.csm.specs.State.{takes}
 use Rattle.csm.specs.Said.{Reads}
 use Rattle.csm.proofs.Promises.{every-state-means}
 use Rattle.csm.proofs.FirstLaws.{reads-means, nothing-means, buffer-means}
 use Rattle.csm.proofs.TurnLaws.{hasNothing, lacksBuffer, turn-number}
-use Rattle.rules.specs.Record.{okSettings, soundConn, soundOver, quiet, creditOf}
+use Rattle.rules.specs.Record.{soundConn, soundOver, quiet, creditOf}
 use Rattle.rules.specs.Open.{ConnLeft, openAnswer, peerInitOf, localInitOf}
 use Rattle.rules.specs.Look.{ExpiryLeft, StateLeft, EvSetLeft, expiryOf, stateOf, evSetOf, killOf}
 use Rattle.rules.specs.Send.{SendIn, SendLeft, goesOf, writesOf, planOf, pktOf, sendPlan, tooLong, sendDoorOf, sendDoor, sendLate, sendAnswer, sendDone, sendKept, sendOf}
@@ -44,47 +43,8 @@ use Rattle.rules.specs.Receive.{RecvIn, RecvLeft, readsOf, askedOf, recv
 use Rattle.rules.specs.Notify.{NotifyIn, NotifyLeft, due, flushIn, absorbed, notifyDoor, notifyAnswer, notifyDone, notifyKept, notifyOf}
 use Rattle.rules.specs.Raw.{RawIn, RawLeft, rawCount, rawDoor, rawAnswer, rawDone, rawKept, rawOf}
 use Rattle.rules.specs.Outcomes.{turnOf}
-use Rattle.rules.specs.Answers.{InRange, Sound, SoundMeans, OpenAnswers, LookAnswers, PacketTooLong, Writes, SendAnswers, askedNow, RecvAnswers, Flushes, NotifyAnswers, RawAnswers, DoorAnswers}
-use Rattle.rules.specs.declared.record.Settings.{Settings}
-use Rattle.rules.specs.declared.record.VsockConnection.{VsockConnection}
-use Rattle.rules.proofs.RecordLaws.{sound-over-ring}
-
--- ---- soundness
-
-pub settings-mean : (size : ℕ) (g : Settings) → Exactly (isRingSize size && okSettings g size ≡ true) (InRange size g)
-unfolding okSettings
-settings-mean size g =
-    in-words
-    (and-means (ring-sizes size) (and-means (and-means (limits-mean .threshold (g .threshold) size) (limits-mean .timeout (g .«request_timeout»))) (limits-mean .timeout (g .«shutdown_timeout»)))) (
-      λ p. record { power = p .0 .0; least = p .0 .1; most = p .0 .2; threshold = p .1 .0 .0; request = p .1 .0 .1; shutdown = p .1 .1 },
-      λ r. ((r .power, r .least, r .most), ((r .threshold, r .request), r .shutdown)),
-    )
-
--- the ring's part and the settings' part, put together
-alone-means : (c : VsockConnection) → Exactly (soundConn c ≡ true) (Sound c)
-unfolding soundConn okSettings
-alone-means c =
-    let g = c .settings in
-    let size = c .«tx_buf» .size in
-    in-words
-    (and-means (ring-means .alone (c .«tx_buf»)) (and-means (and-means (limits-mean .threshold (g .threshold) size) (limits-mean .timeout (g .«request_timeout»))) (limits-mean .timeout (g .«shutdown_timeout»)))) (
-      λ p. record { settings = record { power = p .0 .power; least = p .0 .least; most = p .0 .most; threshold = p .1 .0 .0; request = p .1 .0 .1; shutdown = p .1 .1 }; held = p .0 .within },
-      λ r. let s = r .settings in (record { power = s .power; least = s .least; most = s .most; within = r .held }, ((s .threshold, s .request), s .shutdown)),
-    )
-
-over-parts : (a b c : Bool) → a && b && c ≡ a && c && b
-over-parts true true true = refl
-over-parts true true false = refl
-over-parts true false true = refl
-over-parts true false false = refl
-over-parts false b c = refl
-
-pub sound-means : SoundMeans
-unfolding soundOver soundConn soundOf
-sound-means = record {
-  alone = alone-means;
-  over = λ c storage. same-means (over-parts (soundRecord (c .«tx_buf»)) (eqb storage (c .«tx_buf» .size)) _) (and-means (alone-means c) (equal-means storage (c .«tx_buf» .size)));
-}
+use Rattle.rules.specs.Answers.{OpenAnswers, LookAnswers, PacketTooLong, Writes, SendAnswers, askedNow, RecvAnswers, Flushes, NotifyAnswers, RawAnswers, DoorAnswers}
+use Rattle.rules.proofs.RecordLaws.{settings-mean, sound-means, sound-over-ring}
 
 -- ---- a packet
 
@@ -246,13 +206,13 @@ open-answers = record {
 pub look-answers : LookAnswers
 unfolding flagOf expiryOf stateOf evSetOf killOf
 look-answers = record {
-  pending = λ c left says. by-record _ _ _ (ap (λ (x : FlagLeft). x .answer) says) (alone-means c);
-  will-expire = λ i left says. by-clock _ _ (i .clock) _ (ap (λ (x : FlagLeft). x .answer) says) (alone-means (i .conn));
-  has-expired = λ i left says. by-clock _ _ (i .clock) _ (ap (λ (x : FlagLeft). x .answer) says) (alone-means (i .conn));
-  expiry = λ c left says. by-record _ _ _ (ap (λ (x : ExpiryLeft). x .answer) says) (alone-means c);
-  state = λ c left says. by-record _ _ _ (ap (λ (x : StateLeft). x .answer) says) (alone-means c);
-  polled = λ c left says. by-record _ _ _ (ap (λ (x : EvSetLeft). x .answer) says) (alone-means c);
-  kill = λ c left says. by-record _ _ _ (ap (λ (x : ConnLeft). x .answer) says) (alone-means c);
+  pending = λ c left says. by-record _ _ _ (ap (λ (x : FlagLeft). x .answer) says) (sound-means .alone c);
+  will-expire = λ i left says. by-clock _ _ (i .clock) _ (ap (λ (x : FlagLeft). x .answer) says) (sound-means .alone (i .conn));
+  has-expired = λ i left says. by-clock _ _ (i .clock) _ (ap (λ (x : FlagLeft). x .answer) says) (sound-means .alone (i .conn));
+  expiry = λ c left says. by-record _ _ _ (ap (λ (x : ExpiryLeft). x .answer) says) (sound-means .alone c);
+  state = λ c left says. by-record _ _ _ (ap (λ (x : StateLeft). x .answer) says) (sound-means .alone c);
+  polled = λ c left says. by-record _ _ _ (ap (λ (x : EvSetLeft). x .answer) says) (sound-means .alone c);
+  kill = λ c left says. by-record _ _ _ (ap (λ (x : ConnLeft). x .answer) says) (sound-means .alone c);
 }
 
 -- a door is a ladder that no late rung follows

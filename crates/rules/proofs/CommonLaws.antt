@@ -53,10 +53,11 @@ use Rattle.rules.specs.Common.{asSent, asRead, OffersMean, SoundStaysSou
 use Rattle.rules.specs.Open.{ConnLeft, freshOf, openAnswer, peerInitOf, localInitOf}
 use Rattle.rules.specs.declared.record.Settings.{Settings}
 use Rattle.rules.specs.declared.record.VsockConnection.{VsockConnection}
-use Rattle.rules.proofs.AnswerLaws.{settings-mean, writes-means, due-means, notify-told}
+use Rattle.rules.proofs.AnswerLaws.{writes-means, due-means, notify-told}
 use Rattle.rules.proofs.CallLaws.{some, not-refused, send-number, plan-written, stays-out, met}
 use Rattle.rules.proofs.ChangeLaws.{made-done, due-now, left, within, every-send-leaves, every-notify-leaves}
 use Rattle.rules.proofs.MovesLaws.{receive-keeps, kill-keeps}
+use Rattle.rules.proofs.RecordLaws.{settings-mean}
 use Rattle.rules.proofs.ReceiveLaws.{asked-at-most, passed}
 
 -- a test whose fact is not so does not hold

@@ -7,6 +7,7 @@ use Rattle.rules.specs.Common.{TimersArm, LastToldMoves, UnreachedIsIgno
 use Rattle.rules.specs.Runs.{EveryRunForwards, CutsDoNotMatter, FlagsOnlyGrow, Drains}
 use Rattle.rules.specs.Stories.{StoriesHold}
 use Rattle.rules.proofs.Edges as edges
+use Rattle.rules.proofs.RecordLaws as records
 use Rattle.rules.proofs.AnswerLaws as answers
 use Rattle.rules.proofs.MovesLaws as moves
 use Rattle.rules.proofs.CallLaws as outcomes
@@ -19,7 +20,7 @@ use Rattle.rules.proofs.Stories as stories
 use Rattle.rules.proofs.OfferLaws as offers
 
 pub sound-means : SoundMeans
-sound-means = answers.sound-means
+sound-means = records.sound-means
 
 pub open-answers : OpenAnswers
 open-answers = answers.open-answers
