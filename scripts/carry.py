@@ -2,9 +2,10 @@
 """carry [RING [PACKET [MOODS]]]: carries its input (descriptor 9, from scripts/carry) to standard output through one proved connection.
 
 Starts the program and makes an exit status of its account: 0 all was taken, 1 the stream or the input failed, 2 usage. It waits for a
-stream that would block, where the program asks it to, and hands signals on. A reader that goes away is an answer of the stream and not
-the end of the process."""
-import fcntl, os, re, select, signal, subprocess, sys, threading
+stream that would block, where the program asks it to. A signal ends the input where the program waits for it, so that it still gives its
+account; where it has not ended within a second, it is handed on. A reader that goes away is an answer of the stream and not the end of
+the process."""
+import fcntl, os, re, select, signal, stat, subprocess, sys, threading
 
 HOME = os.path.dirname(os.path.dirname(os.path.realpath(__file__)))
 USAGE = """usage: carry [RING [PACKET [MOODS]]]
@@ -28,22 +29,38 @@ def keep_the_streams():
             os.open(os.devnull, mode)
 
 
-def pipe_above():
-    """A pipe whose ends leave the numbers free by which the program knows them."""
-    ends = os.pipe()
-    high = [fcntl.fcntl(end, fcntl.F_DUPFD_CLOEXEC, 10) for end in ends]
-    for end in ends:
-        os.close(end)
+def above(low):
+    """The same descriptor by a number that leaves free those by which the program knows its own."""
+    high = fcntl.fcntl(low, fcntl.F_DUPFD_CLOEXEC, INPUT + 1)
+    os.close(low)
     return high
 
 
-def wait_for_streams(asked, answer):
-    """Each letter that is asked is given back when its stream is ready."""
+def pipe_above():
+    return [above(end) for end in os.pipe()]
+
+
+def own_input():
+    """The input. A pipe or a terminal is opened anew, so that it says that it would block to this program and to no other."""
+    kind = os.fstat(INPUT).st_mode
+    if stat.S_ISFIFO(kind) or stat.S_ISCHR(kind) and os.isatty(INPUT):
+        try:
+            return above(os.open(f"/proc/self/fd/{INPUT}", os.O_RDONLY | os.O_NONBLOCK))
+        except OSError:
+            pass
+    return INPUT
+
+
+def wait_for_streams(asked, answer, given, ending):
+    """Each letter that is asked is given back when its stream is ready; for the input, `e` where all is to end."""
     while letter := os.read(asked, 1):
         ready = select.poll()
-        ready.register(*((INPUT, select.POLLIN) if letter == b"r" else (1, select.POLLOUT)))
-        ready.poll()
-        os.write(answer, letter)
+        if letter == b"r":
+            ready.register(given, select.POLLIN)
+            ready.register(ending, select.POLLIN)
+        else:
+            ready.register(1, select.POLLOUT)
+        os.write(answer, b"e" if ending in dict(ready.poll()) else letter)
 
 
 def status(lines):
@@ -70,25 +87,39 @@ def main(arguments):
     keep_the_streams()
     asked, ask = pipe_above()
     answered, answer = pipe_above()
+    ending, end = pipe_above()
+    given = own_input()
     os.dup2(ask, ASK)
     os.dup2(answered, ANSWER)
+    signals = []
     program = subprocess.Popen(
         [os.path.join(HOME, "scripts", "program"), "carry", *arguments],
-        stdin=INPUT, stderr=subprocess.PIPE, pass_fds=(ASK, ANSWER), restore_signals=False)
+        stdin=given, stderr=subprocess.PIPE, pass_fds=(ASK, ANSWER), restore_signals=False, start_new_session=True)
     os.close(ask)
     os.close(ASK)
+
+    def told(number, _):
+        """The first signal asks the program to end; one that comes again, or a second without an end, ends it."""
+        signals.append(number)
+        os.write(end, b"e")
+        if len(signals) > 1:
+            program.send_signal(number)
+        else:
+            late = threading.Timer(1, program.send_signal, [number])
+            late.daemon = True
+            late.start()
+
     for number in (signal.SIGINT, signal.SIGTERM, signal.SIGHUP):
-        signal.signal(number, lambda n, _: program.send_signal(n))
-    threading.Thread(target=wait_for_streams, args=(asked, answer), daemon=True).start()
+        signal.signal(number, told)
+    threading.Thread(target=wait_for_streams, args=(asked, answer, given, ending), daemon=True).start()
     lines = []
     for line in program.stderr:
         os.write(2, line)
         lines.append(line.decode(errors="replace"))
-    ended = program.wait()
-    if ended < 0 or ended > 128:
-        number = -ended if ended < 0 else ended - 128
-        print(f"carry: ended by {signal.Signals(number).name}, without an account", file=sys.stderr)
-        return 128 + number
+    program.wait()
+    if signals:
+        print(f"carry: ended by {signal.Signals(signals[0]).name}", file=sys.stderr)
+        return 128 + signals[0]
     return status(lines)
 
 

@@ -109,7 +109,7 @@ fn fill(buf: &mut [u8], n: usize) -> isize {
 // Input that would block is not its end; any other failure is, and says why.
 fn unread(trip: Trip, moods: &[u8], storage: &mut [u8], out: &mut [u8]) -> Trip {
     if waiting::would_block() {
-        return waited(trip);
+        return waited(trip, moods, storage, out);
     }
     os::fail(b"carry: the input could not be read to its end");
     let mut t = trip;
@@ -117,13 +117,17 @@ fn unread(trip: Trip, moods: &[u8], storage: &mut [u8], out: &mut [u8]) -> Trip 
     close(t, moods, storage, out)
 }
 
-// As long as bytes are held there is something to do meanwhile.
-fn waited(trip: Trip) -> Trip {
+// As long as bytes are held there is something to do meanwhile. Told that nothing more is to come,
+// the guest ends as at the end of the input.
+fn waited(trip: Trip, moods: &[u8], storage: &mut [u8], out: &mut [u8]) -> Trip {
     let ring = trip.conn.tx_buf;
-    if ring.used() == 0 {
-        waiting::for_input();
+    if ring.used() != 0 {
+        return trip;
     }
-    trip
+    if waiting::for_input() {
+        return trip;
+    }
+    close(trip, moods, storage, out)
 }
 
 fn close(trip: Trip, moods: &[u8], storage: &mut [u8], out: &mut [u8]) -> Trip {

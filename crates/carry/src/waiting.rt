@@ -1,11 +1,15 @@
 // Waiting for a stream that would block. There is no `poll` here, but what starts the program has
-// one (scripts/carry): it is asked with a letter, and answers when that stream is ready.
+// one (scripts/carry): it is asked with a letter, and answers when that stream is ready, or that it
+// is time to end.
 const ASK: i32 = 3;
 
 const ANSWER: i32 = 4;
 
-pub fn for_input() {
-    wait(b"r");
+const END: u8 = b'e';
+
+// Whether there is more to come.
+pub fn for_input() -> bool {
+    wait(b"r") != END
 }
 
 pub fn for_output() {
@@ -13,7 +17,7 @@ pub fn for_output() {
 }
 
 // Where nobody is there to ask, the processor goes to others first.
-fn wait(side: &[u8]) {
+fn wait(side: &[u8]) -> u8 {
     let mut answer = [0u8; 1];
     let asked = libc::write(ASK, side);
     if asked == 1 {
@@ -21,6 +25,7 @@ fn wait(side: &[u8]) {
     } else {
         libc::sched_yield();
     }
+    answer[0]
 }
 
 // The last call on a stream failed because it would have had to wait, or was interrupted.
