@@ -61,6 +61,7 @@ closedBy LocalClosed r s = LocalClosed
 closedBy (PeerClosed a b) r s = PeerClosed (a || r) (b || s)
 closedBy Killed r s = Killed
 
+-- of this packet
 abbrev pub closedNow : SendIn → ConnState
 closedNow i = closedBy (i .conn .state) (shutsReceive i) (shutsSend i)
 
@@ -73,6 +74,7 @@ confirmed LocalClosed = LocalClosed
 confirmed (PeerClosed a b) = PeerClosed a b
 confirmed Killed = Killed
 
+-- decisions go by the op number
 abbrev opOf : SendIn → ℕ
 opOf i = decoded (i .hdr) .op
 
@@ -83,6 +85,7 @@ dataKills i = meetsData i && killsNow i
 abbrev pub dataStays : SendIn → Bool
 dataStays i = meetsData i && not (killsNow i)
 
+-- the state after a packet: killed by its data, or by its op's rule; any other op leaves it
 abbrev pub stateNow : SendIn → ConnState
 stateNow i =
     when (dataKills i) Killed
@@ -92,6 +95,7 @@ stateNow i =
 abbrev payloadNow : SendIn → List ℕ
 payloadNow i = take (decoded (i .hdr) .len) (i .buf)
 
+-- what a packet that is done leaves (the guest's numbers: `EverySendHears`; timer and last-told: specs/Common)
 pub record SendLeaves (i : SendIn) (o : SendLeft) : Type 0 where
   pub self : SameSelf (i .conn) (o .conn)
   pub state : o .conn .state ≡ stateNow i
@@ -130,6 +134,7 @@ flushFails i = flushesNow i && failed (i .answers .first)
 abbrev pub flushEnds : NotifyIn → VsockConnection → Bool
 flushEnds i d = flushesNow i && (shutBoth (d .state) && eqb (usedOf (d .«tx_buf»)) 0)
 
+-- what an event that is done leaves
 pub record NotifyLeaves (i : NotifyIn) (o : NotifyLeft) : Type 0 where
   pub self : SameSelf (i .conn) (o .conn)
   pub peer : (o .conn .«peer_buf_alloc» ≡ i .conn .«peer_buf_alloc») × (o .conn .«peer_fwd_cnt» ≡ i .conn .«peer_fwd_cnt»)
@@ -199,20 +204,23 @@ pub record RawLeaves (i : RawIn) (o : RawLeft) : Type 0 where
 abbrev pub EveryRawLeaves : Type 0
 EveryRawLeaves = (i : RawIn) (o : RawLeft) → RawSays i o → RawLeaves i o
 
--- ---- what a call took and accepted, where it is done
+-- ---- what a call took and accepted: nothing unless it is done
 
+-- of data that the state takes, what the write counts
 abbrev pub sendTook : SendIn → SendLeft → ℕ
 sendTook i o = when (eqb (o .answer .number) 0) (when (meetsData i) (takenNow i) 0) 0
 
+-- of a flush, what the reached answers count
 abbrev pub notifyTook : NotifyIn → NotifyLeft → ℕ
 notifyTook i o = when (eqb (o .answer .number) 0) (when (flushesNow i) (countedNow (i .conn .«tx_buf») (i .answers)) 0) 0
 
+-- 01's accepted payload
 abbrev pub sendAccepted : SendIn → SendLeft → List ℕ
 sendAccepted i o = when (eqb (o .answer .number) 0) (acceptedNow i) []
 
 -- ---- the timer after a packet
 
--- RESPONSE in LocalInit clears the timer; a SHUTDOWN in Established that sets both flags while bytes are held sets it to now plus the shutdown timeout
+-- RESPONSE in LocalInit clears the timer
 abbrev pub cleared : ConnState → Timer → Timer
 cleared LocalInit t = Unset
 cleared PeerInit t = t
@@ -221,6 +229,7 @@ cleared LocalClosed t = t
 cleared (PeerClosed a b) t = t
 cleared Killed t = t
 
+-- Established alone
 abbrev pub isOpen : ConnState → Bool
 isOpen LocalInit = false
 isOpen PeerInit = false
@@ -229,9 +238,11 @@ isOpen LocalClosed = false
 isOpen (PeerClosed a b) = false
 isOpen Killed = false
 
+-- a SHUTDOWN in Established that has both flags, while bytes are held
 abbrev pub lingersNow : SendIn → Bool
 lingersNow i = isOpen (i .conn .state) && ((shutsReceive i && shutsSend i) && leb 1 (usedOf (i .conn .«tx_buf»)))
 
+-- such a one sets the timer to now plus the shutdown timeout; all else leaves it
 abbrev pub timerNow : SendIn → Timer
 timerNow i =
     when (eqb (opOf i) opResponse) (cleared (i .conn .state) (i .conn .expiry))
