@@ -89,13 +89,12 @@ pub fn moved(trip: Trip, conn: VsockConnection, answer: Answer) -> Trip {
     t
 }
 
-// Answers 1 to 6; "nothing to say" is no refusal.
+// The number of a refusal; "nothing to say" is none.
 fn refusal(answer: Answer) -> u8 {
-    let n = defs::number_of(answer);
-    if n < 7 {
-        return n;
+    match answer {
+        Answer::NoData => 0,
+        _ => defs::number_of(answer),
     }
-    0
 }
 
 fn larger(a: u32, b: u32) -> u32 {

@@ -11,19 +11,12 @@ use native.Mathlib.Omega.{arith}
 use native.Mathlib.Numerals.{add-one}
 use Rattle.defs.specs.Limits.{minSlots, maxSlots, isSlotCount}
 use Rattle.defs.specs.Promises.{Exactly}
-use Rattle.defs.proofs.Basics.{both, never, true-or-false, or-left}
+use Rattle.defs.proofs.Basics.{both, both-true, never, true-or-false, or-left, or-right}
 use Rattle.defs.proofs.ChoiceLaws.{when-true, when-false}
 use Rattle.conn_map.specs.Key.{keyOf}
 use Rattle.conn_map.specs.Table.{Slot, slotAt, slotsFrom, slotsOf, chosen, gathered, anyBelow, usedAt, hit, distinct, soundTable}
 use Rattle.conn_map.specs.Promises.{PortsTellKeys, NoTwoAlike, SoundMeans}
 use Rattle.conn_map.specs.declared.key.ConnMapKey.{ConnMapKey}
-
-pub both-true : (a b : Bool) → a ≡ true → b ≡ true → a && b ≡ true
-both-true a b e f = rw (e, f)
-
-or-right : (a b : Bool) → b ≡ true → a || b ≡ true
-or-right true b e = refl
-or-right false b e = e
 
 clashing : {A : Type 0} (b : Bool) → b ≡ true → b ≡ false → A
 clashing b e f = absurd (never (sym f ∙ e))

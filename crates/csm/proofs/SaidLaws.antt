@@ -11,7 +11,7 @@ use Rattle.defs.specs.Answer.{told}
 use Rattle.defs.specs.Choice.{when}
 use Rattle.defs.specs.declared.stream.ReadAnswer.{ReadAnswer}
 use Rattle.defs.specs.declared.stream.ReadAnswer.the-variants.{Count, WouldBlock, Failed}
-use Rattle.defs.proofs.Basics.{true-or-false, both, and-false}
+use Rattle.defs.proofs.Basics.{true-or-false, both, and-true, and-false}
 use Rattle.defs.proofs.LadderLaws.{firstInTurn}
 use Rattle.csm.specs.Pending.{none, leftOf}
 use Rattle.csm.specs.State.{gives}
@@ -118,10 +118,6 @@ unfolding when
 by-eight true y e = let z : _≡_ {A = ℕ} 7 8 = e in absurd (omega arith)
 by-eight false true e = refl
 by-eight false false e = let z : _≡_ {A = ℕ} 0 8 = e in absurd (omega arith)
-
-and-true : (b : Bool) → b && true ≡ b
-and-true true = refl
-and-true false = refl
 
 -- what is left where the three that come first are not pending
 after-nothing : (p : PendingRxSet) (ends : Bool) → p .rst ≡ false → p .response ≡ false → p .request ≡ false → p .«credit_update» ≡ false → leftOf p ends ≡ none

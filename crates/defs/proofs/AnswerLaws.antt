@@ -4,6 +4,7 @@ use mathlib.Core.Logic.{⊎-elim}
 use mathlib.Core.Bool.{Bool, true, false}
 use mathlib.Core.List.{List, [], _∷_}
 use Prim.Native.Nat.{ℕ}
+use native.Mathlib.Omega.{arith}
 use lib.Dec.{eqb}
 use denote.Enum.Declared.{tagOf}
 use types.Run.{OneOf, miss}
@@ -59,6 +60,10 @@ is-done TxBufFull e = absurd (never e)
 is-done StreamBlocked e = absurd (never e)
 is-done StreamFailed e = absurd (never e)
 is-done NotQueued e = absurd (never e)
+
+-- done is no refusal
+pub done-passes : Refuses (told Done) → ⊥
+done-passes r = omega (arith, r .0)
 
 -- number 0 is done's alone
 pub number-zero : (a : Answer) → told a .number ≡ 0 → a ≡ Done

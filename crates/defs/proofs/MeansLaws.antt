@@ -1,5 +1,5 @@
 -- What a test means, made of what its parts mean. Assumes nothing.
-use Prim.Native.Nat.{ℕ, zero, suc, _<_, _≤_}
+use Prim.Native.Nat.{ℕ, _<_, _≤_}
 use mathlib.Core.Path.{_≡_, refl, sym, ap, _∙_}
 use mathlib.Core.Logic.{_⊎_, inl, inr, ⊎-elim}
 use mathlib.Core.Bool.{Bool, true, false, not, _&&_, _||_}
@@ -7,7 +7,7 @@ use native.Mathlib.Omega.{arith}
 use lib.Dec.{leb, ltb, eqb}
 use borrow.Author.Tests.{ltb-true, lt-ltb, leb-true, leb-false, le-leb, lt-leb, eqb-true, eqb-false, eq-eqb, ne-eqb, not-true}
 use Rattle.defs.specs.Promises.{Exactly}
-use Rattle.defs.proofs.Basics.{never, true-or-false, both, or-left}
+use Rattle.defs.proofs.Basics.{never, true-or-false, positive, both, both-true, or-left, or-right}
 
 pub as-is : (b : Bool) → Exactly (b ≡ true) (b ≡ true)
 as-is b = (λ e. e, λ e. e)
@@ -34,11 +34,7 @@ over-means a b = (λ e. leb-false a b (not-true _ e), λ l. ap not (lt-leb a b l
 
 -- at least one
 pub some-means : (n : ℕ) → Exactly (not (eqb n 0) ≡ true) (0 < n)
-some-means n = (λ e. some-of n (eqb-false n 0 (not-true _ e)), λ l. ap not (ne-eqb n 0 (λ z. let y : n ≡ 0 = z in omega arith)))
-  where
-    some-of : (n : ℕ) → (n ≡ 0 → ⊥) → 0 < n
-    some-of zero f = absurd (f refl)
-    some-of (suc n) f = omega arith
+some-means n = (λ e. positive n (eqb-false n 0 (not-true _ e)), λ l. ap not (ne-eqb n 0 (λ z. let y : n ≡ 0 = z in omega arith)))
 
 pub equal-means : (a b : ℕ) → Exactly (eqb a b ≡ true) (a ≡ b)
 equal-means a b = (eqb-true a b, eq-eqb a b)
@@ -47,10 +43,7 @@ pub not-means : {b : Bool} {P : Type 0} → Exactly (b ≡ true) P → Exactly (
 not-means {b} {P} m = (λ e p. never (sym (not-true b e) ∙ m .1 p), λ n. ⊎-elim (λ (t : b ≡ true). absurd (n (m .0 t))) (λ (f : b ≡ false). ap not f) (true-or-false b))
 
 pub and-means : {a b : Bool} {P Q : Type 0} → Exactly (a ≡ true) P → Exactly (b ≡ true) Q → Exactly (a && b ≡ true) (P × Q)
-and-means {a} {b} p q = (λ e. let s = both a b e in (p .0 (s .0), q .0 (s .1)), λ r. and-true a b (p .1 (r .0)) (q .1 (r .1)))
-  where
-    and-true : (a b : Bool) → a ≡ true → b ≡ true → a && b ≡ true
-    and-true a b e f = simp (e, f)
+and-means {a} {b} p q = (λ e. let s = both a b e in (p .0 (s .0), q .0 (s .1)), λ r. both-true a b (p .1 (r .0)) (q .1 (r .1)))
 
 pub or-means : {a b : Bool} {P Q : Type 0} → Exactly (a ≡ true) P → Exactly (b ≡ true) Q → Exactly (a || b ≡ true) (P ⊎ Q)
 or-means {a} {b} {P} {Q} p q = (λ e. to a b e (p .0) (q .0), λ s. ⊎-elim (λ (x : P). or-left a b (p .1 x)) (λ (y : Q). or-right a b (q .1 y)) s)
@@ -58,7 +51,3 @@ or-means {a} {b} {P} {Q} p q = (λ e. to a b e (p .0) (q .0), λ s. ⊎-elim (λ
     to : (a b : Bool) → a || b ≡ true → (a ≡ true → P) → (b ≡ true → Q) → P ⊎ Q
     to true b e f g = inl (f refl)
     to false b e f g = inr (g e)
-
-    or-right : (a b : Bool) → b ≡ true → a || b ≡ true
-    or-right true b e = refl
-    or-right false b e = e

@@ -15,7 +15,8 @@ use Rattle.defs.specs.Answer.{told}
 use Rattle.defs.specs.Promises.{Refuses}
 use Rattle.defs.specs.declared.answer.Answer.{Answer}
 use Rattle.defs.specs.declared.answer.Answer.the-variants.{Done, NotQueued}
-use Rattle.defs.proofs.Basics.{never, lt-or-ge}
+use Rattle.defs.proofs.Basics.{never, lt-or-ge, positive}
+use Rattle.defs.proofs.AnswerLaws.{done-passes}
 use Rattle.defs.proofs.ChoiceLaws.{when-true, when-false, when-holds}
 use Rattle.conn_map.specs.Key.{keyOf}
 use Rattle.conn_map.specs.Table.{usedAt, slotsOf}
@@ -23,7 +24,6 @@ use Rattle.conn_map.specs.Order.{countBelow, amongFirst, SmallerOf}
 use Rattle.conn_map.proofs.OrderLaws.{listed, listed-length, listed-in-order, listed-first, take-smaller, gathered-listed, by-list}
 use Rattle.queue.specs.Queued.{ListLeft, leaves, hasRoom, newOf}
 use Rattle.queue.specs.Pop.{popOf}
-use Rattle.queue.proofs.PlacesLaws.{positive}
 use Rattle.queue.proofs.QueueLaws.{queue-is-its-list, sound-says}
 use Rattle.queue.proofs.AnswerLaws as answers
 use Rattle.queue.proofs.EveryLaws as every
@@ -42,12 +42,9 @@ unfolding pushList evictList
 not-refusing rx l limit synced =
     let Keeps : ListLeft MuxerRx → Type 0 = λ (o : ListLeft MuxerRx). Refuses (told (o .answer)) → ⊥ in
     when-holds Keeps (hasRoom synced (length l) limit) _ _
-    (λ t. done)
-    (λ t. when-holds Keeps (rx .rst) _ _ (λ r. when-holds Keeps (eqb (lastConn l) 0) _ _ (λ n. turned) (λ n. done)) (λ r. turned))
+    (λ t. done-passes)
+    (λ t. when-holds Keeps (rx .rst) _ _ (λ r. when-holds Keeps (eqb (lastConn l) 0) _ _ (λ n. turned) (λ n. done-passes)) (λ r. turned))
   where
-    done : Refuses (told Done) → ⊥
-    done r = omega (arith, r .0)
-
     turned : Refuses (told NotQueued) → ⊥
     turned r = omega (arith, r .1)
 

@@ -11,9 +11,9 @@ use lib.Seq.{take-suc, length-take-le}
 use Rattle.defs.specs.Choice.{when}
 use Rattle.defs.specs.Answer.{told}
 use Rattle.defs.specs.declared.answer.Answer.the-variants.{Done, NotQueued}
+use Rattle.defs.proofs.Basics.{positive}
 use Rattle.defs.proofs.ChoiceLaws.{when-true, when-false, when-holds}
 use Rattle.queue.specs.Queued.{QueuedLeft, ListLeft, leaves, hasRoom, laid}
-use Rattle.queue.proofs.PlacesLaws.{positive}
 use Rattle.queue.proofs.QueueLaws.{Sound, sound-packed, replaced, append-within}
 use Rattle.muxer_rxq.specs.Queue.{zeroItem, rxq, items}
 use Rattle.muxer_rxq.specs.Push.{lastConn, evictList, pushList}

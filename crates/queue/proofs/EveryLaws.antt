@@ -15,7 +15,7 @@ use Rattle.defs.specs.Promises.{Exactly, Refuses}
 use Rattle.defs.specs.declared.answer.Answer.{Answer}
 use Rattle.defs.specs.declared.answer.Answer.the-variants.{Done, NotQueued}
 use Rattle.defs.proofs.Basics.{both, never, true-or-false}
-use Rattle.defs.proofs.AnswerLaws.{is-done, number-zero, when-done, when-not-done, left-kept}
+use Rattle.defs.proofs.AnswerLaws.{is-done, done-passes, number-zero, when-done, when-not-done, left-kept}
 use Rattle.defs.proofs.ChoiceLaws.{when-holds}
 use Rattle.queue.specs.Queue.{Queue, Kind, Lawful, all, padded, clearQ, soundQ, items, pack, holding, frontGone}
 use Rattle.queue.specs.Queued.{QueuedLeft, ListLeft, leaves, madeOf, newOf, laid, pushOf}
@@ -84,9 +84,6 @@ module _ {Q A : Type 0} (k : Kind Q A) where
         (λ n. getD-drop (k .seen q .len) (k .seen q .places) n (k .zeroItem) ∙ p .3 (k .seen q .len + n) (omega arith))),
   )
 
-not-refused : Refuses (told Done) → ⊥
-not-refused r = omega (arith, r .0)
-
 module _ {Q A : Type 0} (k : Kind Q A) (w : Lawful k) where
   empty-of : (limit : ℕ) (q : Q) → q ≡ pack k [] limit true → EmptyOf k limit q
   empty-of limit q e =
@@ -117,7 +114,7 @@ module _ {Q A : Type 0} (k : Kind Q A) (w : Lawful k) where
     where
       refused-not-done : (a : Answer) → Refuses (told a) → isDone a ≡ false
       refused-not-done a r =
-          ⊎-elim (λ (t : isDone a ≡ true). absurd (not-refused (subst (λ (x : Answer). Refuses (told x)) (is-done a t) r))) (λ (t : isDone a ≡ false). t) (true-or-false (isDone a))
+          ⊎-elim (λ (t : isDone a ≡ true). absurd (done-passes (subst (λ (x : Answer). Refuses (told x)) (is-done a t) r))) (λ (t : isDone a ≡ false). t) (true-or-false (isDone a))
 
   pub new-empty : (limit : ℕ) (left : QueuedLeft Q) → left ≡ newOf k limit → left .answer .number ≡ 0 → EmptyOf k limit (left .queue)
   unfolding newOf
@@ -256,14 +253,14 @@ module _ {Q A : Type 0} (k : Kind Q A) (q : Q) where
   peek-refused : (left : PeekLeft A) → left ≡ peekOf k q → Refuses (left .answer) → (left .found ≡ false) × (left .item ≡ k .zeroItem)
   unfolding peekOf
   peek-refused left e r =
-      let f = left-kept (λ (o : PeekLeft A). o .answer) _ _ _ left (λ x. not-refused (subst Refuses (looks (items k q)) x)) e r in
+      let f = left-kept (λ (o : PeekLeft A). o .answer) _ _ _ left (λ x. done-passes (subst Refuses (looks (items k q)) x)) e r in
       (ap (λ (o : PeekLeft A). o .found) f, ap (λ (o : PeekLeft A). o .item) f)
 
   pop-refused : {G : Type 0} (nothing : G) (due : A → Bool) (give : A → G) (a : Answer) (left : PopLeft G Q) → left ≡ popOf k nothing due give a q → Refuses (left .answer)
       → (left .queue ≡ q) × (left .found ≡ false) × (left .given ≡ nothing)
   unfolding popOf
   pop-refused {G = G} nothing due give a left e r =
-      let f = left-kept (λ (o : PopLeft G Q). o .answer) _ _ _ left (λ x. not-refused (subst Refuses (takes nothing due give (items k q)) x)) e r in
+      let f = left-kept (λ (o : PopLeft G Q). o .answer) _ _ _ left (λ x. done-passes (subst Refuses (takes nothing due give (items k q)) x)) e r in
       (ap (λ (o : PopLeft G Q). o .queue) f, ap (λ (o : PopLeft G Q). o .found) f, ap (λ (o : PopLeft G Q). o .given) f)
 
   pub refusals-keep : RefusalKeeps k q

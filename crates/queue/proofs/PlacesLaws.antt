@@ -4,8 +4,7 @@ use mathlib.Core.Path.{_≡_, refl, ap, sym, _∙_}
 use mathlib.Core.Bool.{Bool, true, false}
 use mathlib.Core.List.{List, [], _∷_, _++_, map}
 use native.Mathlib.Numerals.{add-one}
-use mathlib.Core.Logic.{⊎-elim}
-use native.Mathlib.Nat.{not-suc-le-zero, eq-zero-or-pos}
+use native.Mathlib.Nat.{not-suc-le-zero}
 use native.Mathlib.Omega.{arith}
 use lib.ListN.{length, getD, take, drop, set, replicate, length-map, length-append, length-drop, length-set, take-append-drop}
 use lib.Seq.{take-suc, drop-cons, set-at, set-append-left, append-snoc, length-take-le, getD-drop, take-append-seam, drop-append-seam}
@@ -105,9 +104,6 @@ module _ {A : Type 0} (N : ℕ) (z : A) where
       by (suc n) = rw e (by n)
 
 -- ---- the first places
-
-pub positive : (n : ℕ) → (n ≡ 0 → ⊥) → 0 < n
-positive n z = ⊎-elim (λ (e : n ≡ 0). absurd (z e)) (λ (h : 0 < n). h) (eq-zero-or-pos n)
 
 pub none-held : {A : Type 0} (l : List A) (n : ℕ) → n ≡ 0 → take n l ≡ []
 none-held l n e = rw e

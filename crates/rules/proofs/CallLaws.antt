@@ -3,7 +3,7 @@ use Prim.Native.Nat.{ℕ, zero, suc, _≤_}
 use mathlib.Core.Path.{_≡_, refl, sym, ap, subst, _∙_}
 use mathlib.Core.Logic.{⊎-elim}
 use mathlib.Core.Bool.{Bool, true, false, not, _&&_, _||_}
-use mathlib.Core.List.{[], _++_, append-nil}
+use mathlib.Core.List.{[], _++_}
 use native.Mathlib.Omega.{arith}
 use lib.Dec.{leb, eqb}
 use lib.ListN.{take, drop}
@@ -17,13 +17,11 @@ use Rattle.defs.specs.Promises.{Refuses, Exactly}
 use Rattle.defs.specs.Stream.{counted, failed}
 use Rattle.defs.specs.declared.answer.Answer.{Answer}
 use Rattle.defs.specs.declared.answer.Answer.the-variants.{Done}
-use Rattle.defs.proofs.Basics.{never, both, true-or-false, or-true, or-false}
-use Rattle.defs.proofs.AnswerLaws.{done-is-done, is-done, when-done, when-not-done, number-zero, answer-told, left-done, left-kept}
+use Rattle.defs.proofs.Basics.{never, both, true-or-false, positive, or-true, or-false}
+use Rattle.defs.proofs.AnswerLaws.{done-is-done, is-done, done-passes, when-done, when-not-done, number-zero, answer-told, left-done, left-kept}
 use Rattle.defs.proofs.ChoiceLaws.{when-true, when-false, when-holds}
-use Rattle.packet.specs.Header.{layout, fields, ofFields, encoded, decoded}
-use Rattle.packet.specs.Le.{packed, unpacked}
-use Rattle.packet.specs.Promises.{Fit}
-use Rattle.packet.proofs.LeLaws.{unpacked-packed}
+use Rattle.packet.specs.Header.{encoded, decoded}
+use Rattle.packet.proofs.HeaderLaws.{decoded-encoded}
 use Rattle.packet.specs.Uapi.{opResponse, opShutdown, opRw, opCreditRequest}
 use Rattle.packet.specs.declared.hdr.VsockPacketHdr.{VsockPacketHdr}
 use Rattle.txbuf.specs.Record.{usedOf}
@@ -50,22 +48,18 @@ use Rattle.rules.specs.declared.plan.SendPlan.{SendPlan}
 
 -- ---- refusals
 
--- what is done is no refusal
-zero-passes : Refuses (told Done) → ⊥
-zero-passes r = omega (arith, r .0)
-
--- nor are 7 and 8
+-- what is said is no refusal, nor are 7 and 8
 said-passes : (s : RxStep) → Refuses (told (rowOf s .answer)) → ⊥
-said-passes Rst r = zero-passes r
-said-passes Response r = zero-passes r
-said-passes Request r = zero-passes r
-said-passes OutOfState r = zero-passes r
-said-passes AskCredit r = zero-passes r
+said-passes Rst r = done-passes r
+said-passes Response r = done-passes r
+said-passes Request r = done-passes r
+said-passes OutOfState r = done-passes r
+said-passes AskCredit r = done-passes r
 said-passes NoBuffer r = omega (arith, r .1)
-said-passes (Data n) r = zero-passes r
-said-passes Close r = zero-passes r
-said-passes Fail r = zero-passes r
-said-passes Update r = zero-passes r
+said-passes (Data n) r = done-passes r
+said-passes Close r = done-passes r
+said-passes Fail r = done-passes r
+said-passes Update r = done-passes r
 said-passes Nothing r = omega (arith, r .1)
 
 -- where one field alone depends on the answer
@@ -83,16 +77,16 @@ pub refusals-change-nothing : RefusalsChangeNothing
 unfolding sendOf sendDone sendKept recvOf recvDone recvKept notifyOf notifyDone notifyKept rawOf rawDone rawKept killOf
 refusals-change-nothing = record {
   send = λ i o says r.
-      let z = left-kept (λ (x : SendLeft). x .answer) (sendAnswer i) (sendDone i) (sendKept i) o zero-passes says r in
+      let z = left-kept (λ (x : SendLeft). x .answer) (sendAnswer i) (sendDone i) (sendKept i) o done-passes says r in
       (ap (λ (x : SendLeft). x .conn) z, ap (λ (x : SendLeft). x .store) z, ap (λ (x : SendLeft). x .out) z);
   recv = λ i o says r.
       let z = left-kept (λ (x : RecvLeft). x .answer) (refusalOf i) (recvDone i) (recvKept i) o (said-passes (nextStep (i .conn) (i .present) (i .answer))) says r in
       (ap (λ (x : RecvLeft). x .conn) z, ap (λ (x : RecvLeft). x .hdr) z, ap (λ (x : RecvLeft). x .buf) z);
   notify = λ i o says r.
-      let z = left-kept (λ (x : NotifyLeft). x .answer) (notifyAnswer i) (notifyDone i) (notifyKept i) o zero-passes says r in
+      let z = left-kept (λ (x : NotifyLeft). x .answer) (notifyAnswer i) (notifyDone i) (notifyKept i) o done-passes says r in
       (ap (λ (x : NotifyLeft). x .conn) z, ap (λ (x : NotifyLeft). x .out) z);
   raw = λ i o says r.
-      let z = left-kept (λ (x : RawLeft). x .answer) (rawAnswer i) (rawDone i) (rawKept i) o zero-passes says r in
+      let z = left-kept (λ (x : RawLeft). x .answer) (rawAnswer i) (rawDone i) (rawKept i) o done-passes says r in
       (ap (λ (x : RawLeft). x .out) z, ap (λ (x : RawLeft). x .count) z);
   kill = λ c o says r.
       ap (λ (x : ConnLeft). x .conn) says ∙ field-kept (lookAnswer c) (killedOf c) c (subst Refuses (ap (λ (x : ConnLeft). x .answer) says) r);
@@ -262,10 +256,6 @@ refusal-small false false false false true m = omega arith
 refusal-small false false false false false true = omega arith
 refusal-small false false false false false false = omega arith
 
-not-zero : (n : ℕ) → (n ≡ 0 → ⊥) → 1 ≤ n
-not-zero zero e = absurd (e refl)
-not-zero (suc n) e = omega arith
-
 -- so what isn't refused is done, said or lacks its buffer
 pub not-refused : (i : RecvIn) (o : RecvLeft) → o ≡ recvOf i → (Refuses (o .answer) → ⊥) → refusalOf i ≡ Done
 unfolding recvOf recvKept recvRefusal recvDoor
@@ -275,7 +265,7 @@ not-refused i o says k =
     (λ (t : isDone (refusalOf i) ≡ false).
     let z : o .answer ≡ told (refusalOf i) = ap (λ (x : RecvLeft). x .answer) (says ∙ when-not-done (refusalOf i) _ _ t) in
     absurd
-    (k (rw z (not-zero _ (λ e. never (sym t ∙ ap isDone (number-zero (refusalOf i) e) ∙ done-is-done)), refusal-small _ _ _ _ _ _))))
+    (k (rw z (positive _ (λ e. never (sym t ∙ ap isDone (number-zero (refusalOf i) e) ∙ done-is-done)), refusal-small _ _ _ _ _ _))))
     (true-or-false (isDone (refusalOf i)))
 
 turn-done : (i : RecvIn) (o : RecvLeft) → o ≡ recvOf i → (Refuses (o .answer) → ⊥) → o ≡ recvDone i
@@ -293,13 +283,8 @@ every-turn-leaves i o says k =
       buf = ap (λ (x : RecvLeft). x .buf) z ∙ ap (λ (x : Said). take (x .len) (i .read) ++ drop (x .len) (i .buf)) m;
     }
 
--- what was encoded is decoded
-header-back : (h : VsockPacketHdr) → Fit layout (fields h) → decoded (encoded h) ≡ h
-unfolding encoded decoded
-header-back h f = ap ofFields (ap (unpacked layout) (sym (append-nil (packed layout (fields h)))) ∙ unpacked-packed layout (fields h) [] f)
-
 pub header-tells : HeaderTells
-header-tells i o says k f = ap decoded (every-turn-leaves i o says k .hdr) ∙ header-back _ f
+header-tells i o says k f = ap decoded (every-turn-leaves i o says k .hdr) ∙ decoded-encoded _ f
 
 -- the answer of a turn that isn't refused is its row's
 turn-number : (i : RecvIn) (o : RecvLeft) → o ≡ recvOf i → 7 ≤ o .answer .number → o .answer .number ≡ numberOf (turnOf i)

@@ -50,7 +50,7 @@ use Rattle.csm.specs.declared.timer.Timer.{Timer}
 use Rattle.csm.specs.declared.timer.Timer.the-variants.{Unset}
 use Rattle.rules.specs.Notify.{NotifyIn, NotifyLeft, seenOf, settledOf, drainedOf, absorbed, due, flushIn, flushed, notifyDoor, notifyAnswer, notifyDone, notifyKept, notifyOf}
 use Rattle.rules.specs.Record.{peerOf, sentOf, regrouped, quiet, withState, killedOf}
-use Rattle.rules.specs.Open.{Opening, ConnLeft, freshOf, zeroConn, openAnswer, peerInitOf, localInitOf}
+use Rattle.rules.specs.Open.{Opening, ConnLeft, freshOf, allocated, zeroConn, openAnswer, peerInitOf, localInitOf}
 use Rattle.rules.specs.Raw.{RawLeft, rawDoor, rawAnswer, rawDone, rawKept, rawOf}
 use Rattle.rules.specs.Look.{lookAnswer, killOf}
 use Rattle.rules.specs.Send.{heardOf, movedOf, updatedOf, onResponse, onShutdown, onCreditRequest, onData, ruleOf, planOf, SendIn, SendLeft, sendPlan, sendAnswer, sendKills, sendCarried, sendDone, sendKept, sendOf, carried}
@@ -699,10 +699,10 @@ every-notify-leaves i o w says n =
 
 -- ---- openings
 
-fresh-opened : (o : Opening) (state : ConnState) (request response : Bool)
-    → Opened o (freshOf o state (record { request = request; response = response; rst = false; rw = false; «credit_update» = false }))
+fresh-opened : (o : Opening) (alloc : ℕ) (state : ConnState) (request response : Bool)
+    → Opened o (freshOf (allocated o alloc) state (record { request = request; response = response; rst = false; rw = false; «credit_update» = false }))
 unfolding freshOf
-fresh-opened o state request response = record {
+fresh-opened o alloc state request response = record {
   settings = refl;
   cids = (refl, refl);
   ports = (refl, refl);
@@ -720,25 +720,23 @@ made-refused : (a : Answer) (x y : VsockConnection) (left : ConnLeft) → left �
 made-refused a x y left says r =
     ap (λ (l : ConnLeft). l .conn) says ∙ field-kept a x y (subst Refuses (ap (λ (l : ConnLeft). l .answer) says) r)
 
+-- what an opening gives is all that is seen of it
+opened-as : (o : Opening) (c x : VsockConnection) → Opened o x → c ≡ x
+    → Opened o c × (c .state ≡ x .state) × (c .«peer_buf_alloc» ≡ x .«peer_buf_alloc») × (c .«pending_rx» .response ≡ x .«pending_rx» .response)
+    × (c .«pending_rx» .request ≡ x .«pending_rx» .request)
+opened-as o c x p z = (
+  subst (Opened o) (sym z) p,
+  ap (λ (c : VsockConnection). c .state) z,
+  ap (λ (c : VsockConnection). c .«peer_buf_alloc») z,
+  ap (λ (c : VsockConnection). c .«pending_rx» .response) z,
+  ap (λ (c : VsockConnection). c .«pending_rx» .request) z,
+)
+
 pub opening-means : OpeningMeans
 unfolding peerInitOf localInitOf freshOf
 opening-means = record {
-  peer = λ o left says n.
-      let z = made-done (openAnswer (o .size) (o .settings)) _ _ left says n in (
-        subst (Opened o) (sym z) (fresh-opened o PeerInit false true),
-        ap (λ (c : VsockConnection). c .state) z,
-        ap (λ (c : VsockConnection). c .«peer_buf_alloc») z,
-        ap (λ (c : VsockConnection). c .«pending_rx» .response) z,
-        ap (λ (c : VsockConnection). c .«pending_rx» .request) z,
-      );
-  local = λ o left says n.
-      let z = made-done (openAnswer (o .size) (o .settings)) _ _ left says n in (
-        subst (Opened o) (sym z) (record { settings = refl; cids = (refl, refl); ports = (refl, refl); ring = (refl, refl); counts = (refl, refl, refl, refl); expiry = refl; quiet = (refl, refl, refl) }),
-        ap (λ (c : VsockConnection). c .state) z,
-        ap (λ (c : VsockConnection). c .«peer_buf_alloc») z,
-        ap (λ (c : VsockConnection). c .«pending_rx» .response) z,
-        ap (λ (c : VsockConnection). c .«pending_rx» .request) z,
-      );
+  peer = λ o left says n. opened-as o _ _ (fresh-opened o (o .alloc) PeerInit false true) (made-done (openAnswer (o .size) (o .settings)) _ _ left says n);
+  local = λ o left says n. opened-as o _ _ (fresh-opened o 0 LocalInit true false) (made-done (openAnswer (o .size) (o .settings)) _ _ left says n);
 }
 
 all-zero : AllZero zeroConn

@@ -37,6 +37,8 @@ use Rattle.txbuf.proofs.AnswerLaws.{flush-told}
 use Rattle.csm.specs.Row.{rowOf}
 use Rattle.csm.specs.Said.{Said, saidNow}
 use Rattle.csm.specs.declared.turn.RxStep.{RxStep}
+use Rattle.csm.specs.declared.pending.PendingRxSet.{PendingRxSet}
+use Rattle.csm.specs.declared.state.ConnState.{ConnState}
 use Rattle.csm.proofs.Promises.{says-what-was-read, says-first-pending}
 use Rattle.csm.proofs.FirstLaws.{reads-means, step-unread}
 use Rattle.rules.specs.Record.{quiet, creditOf}
@@ -50,7 +52,7 @@ use Rattle.rules.specs.Moves.{Account, account, Numbers, sendTaken, noti
 use Rattle.rules.specs.Leaves.{sendTook, notifyTook, sendAccepted, dataStays, flushesNow, SendLeaves, NotifyLeaves}
 use Rattle.rules.specs.Offer.{AskedLeft, sendWrites, sendOffered, recvReads, recvAsked, notifyFlushes, notifyFirst, notifySecond, rawOffered}
 use Rattle.rules.specs.Common.{asSent, asRead, OffersMean, SoundStaysSound, sentWith, readWith, notifiedWith, withSecond, UnreachedIsIgnored, DataFitsPeer}
-use Rattle.rules.specs.Open.{ConnLeft, freshOf, openAnswer, peerInitOf, localInitOf}
+use Rattle.rules.specs.Open.{Opening, ConnLeft, freshOf, openAnswer, peerInitOf, localInitOf}
 use Rattle.rules.specs.declared.record.Settings.{Settings}
 use Rattle.rules.specs.declared.record.VsockConnection.{VsockConnection}
 use Rattle.rules.proofs.AnswerLaws.{writes-means, due-means, notify-told}
@@ -188,17 +190,20 @@ sound-notified i o w d v s =
     (λ t. (refl, s .0 .held))) in
     (sound-again (i .conn) (o .conn) (v .self .settings) (r .0) (r .1) (s .0), s .1 ∙ sym (r .0))
 
+fresh-sound : (o : Opening) (state : ConnState) (pending : PendingRxSet) → openAnswer (o .size) (o .settings) ≡ Done → Sound (freshOf o state pending)
+unfolding freshOf
+fresh-sound o state pending d = record { settings = sound-opened (o .size) (o .settings) d; held = omega arith }
+
+made-sound : (a : Answer) (x y : VsockConnection) (left : ConnLeft) → left ≡ record { answer = told a; conn = whenDone a x y } → left .answer .number ≡ 0
+    → (a ≡ Done → Sound x) → Sound (left .conn)
+made-sound a x y left says n f =
+    subst Sound (sym (made-done a x y left says n)) (f (number-zero a (ap (λ (x : ConnLeft). x .answer .number) (sym says) ∙ n)))
+
 pub sound-stays-sound : SoundStaysSound
-unfolding peerInitOf localInitOf freshOf sendOf sendKept notifyOf notifyKept
+unfolding peerInitOf localInitOf sendOf sendKept notifyOf notifyKept
 sound-stays-sound = record {
-  peer = λ o left says n.
-      let a = openAnswer (o .size) (o .settings) in
-      let d = number-zero a (ap (λ (x : ConnLeft). x .answer .number) (sym says) ∙ n) in
-      subst Sound (sym (made-done a _ _ left says n)) (record { settings = sound-opened (o .size) (o .settings) d; held = omega arith });
-  local = λ o left says n.
-      let a = openAnswer (o .size) (o .settings) in
-      let d = number-zero a (ap (λ (x : ConnLeft). x .answer .number) (sym says) ∙ n) in
-      subst Sound (sym (made-done a _ _ left says n)) (record { settings = sound-opened (o .size) (o .settings) d; held = omega arith });
+  peer = λ o left says n. made-sound (openAnswer (o .size) (o .settings)) _ _ left says n (fresh-sound _ _ _);
+  local = λ o left says n. made-sound (openAnswer (o .size) (o .settings)) _ _ left says n (fresh-sound _ _ _);
   send = λ i o w says s.
       ⊎-elim
       (λ (t : isDone (sendAnswer i) ≡ true).

@@ -17,7 +17,7 @@ use Rattle.defs.specs.declared.answer.Answer.{Answer}
 use Rattle.defs.specs.declared.answer.Answer.the-variants.{Done}
 use Rattle.defs.specs.declared.stream.StreamAnswer.{StreamAnswer}
 use Rattle.defs.specs.declared.stream.StreamAnswer.the-variants.{Count, WouldBlock, Failed}
-use Rattle.defs.proofs.Basics.{never, both, true-or-false}
+use Rattle.defs.proofs.Basics.{never, both, true-or-false, positive}
 use Rattle.defs.proofs.ChoiceLaws.{when-true, when-false, when-same}
 use Rattle.defs.proofs.AnswerLaws.{is-done, when-done, when-not-done, number-zero}
 use Rattle.defs.proofs.LadderLaws.{lowest-passed, lowest-end}
@@ -159,10 +159,6 @@ flushes i w u = eqb-true (heldBy (i .conn)) 0 (not-false _ (sym (ap (λ (b : Boo
 some-held : (i : NotifyIn) → due i ≡ true → 0 < heldBy (i .conn)
 unfolding quiet
 some-held i u = let e = eqb-false (heldBy (i .conn)) 0 (not-true _ (both (i .writable) _ u .1)) in positive (heldBy (i .conn)) e
-  where
-    positive : (n : ℕ) → (n ≡ 0 → ⊥) → 0 < n
-    positive zero e = absurd (e refl)
-    positive (suc n) e = omega arith
 
 out-falls : (d : VsockConnection) (s : List ℕ) (e : Event) → Numbers d → Made d s e → isOut e ≡ true → heldBy (after e) ≤ heldBy d - 1
 out-falls d s (sends i o) w m x = absurd (never x)

@@ -77,25 +77,25 @@ peerInitOf o = record {
       (freshOf o PeerInit (record { request = false; response = true; rst = false; rw = false; «credit_update» = false })) zeroConn;
 }
 
--- the guest's space is not known yet
-abbrev unheard : Opening → Opening
-unheard o = record {
+-- the same with another space
+abbrev pub allocated : Opening → ℕ → Opening
+allocated o alloc = record {
   size = o .size;
   settings = o .settings;
   «local_cid» = o .«local_cid»;
   «peer_cid» = o .«peer_cid»;
   «local_port» = o .«local_port»;
   «peer_port» = o .«peer_port»;
-  alloc = 0;
+  alloc = alloc;
 }
 
--- by the host: LocalInit, Request pending, space 0
+-- by the host: LocalInit, Request pending, space 0: the guest's is not known yet
 unfoldable pub localInitOf : Opening → ConnLeft
 localInitOf o = record {
   answer = told (openAnswer (o .size) (o .settings));
   conn =
       whenDone (openAnswer (o .size) (o .settings))
-      (freshOf (unheard o) LocalInit (record { request = true; response = false; rst = false; rw = false; «credit_update» = false })) zeroConn;
+      (freshOf (allocated o 0) LocalInit (record { request = true; response = false; rst = false; rw = false; «credit_update» = false })) zeroConn;
 }
 
 abbrev pub PeerInitSays : Opening → ConnLeft → Type 0

@@ -3,7 +3,8 @@ use borrow.Author.Needs.{needs}
 use lib.ListN.{length}
 use Rattle.defs.specs.Ladder.{recordAnswer}
 use Rattle.defs.specs.Limits.{maxRxq}
-use Rattle.queue.proofs.PlacesLaws.{long, positive}
+use Rattle.defs.proofs.Basics.{positive}
+use Rattle.queue.proofs.PlacesLaws.{long}
 use Rattle.queue.proofs.LookLaws.{peek-kept, peek-none, peek-front}
 use Rattle.muxer_rxq.specs.Queue.{soundQ}
 use Rattle.muxer_rxq.proofs.QueueLaws.{lawful}

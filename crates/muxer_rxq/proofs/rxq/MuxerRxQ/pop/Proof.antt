@@ -4,7 +4,8 @@ use lib.ListN.{length}
 use Rattle.defs.specs.Ladder.{recordAnswer}
 use Rattle.defs.specs.Limits.{maxRxq}
 use Rattle.defs.proofs.LadderLaws.{record-passed}
-use Rattle.queue.proofs.PlacesLaws.{long, positive}
+use Rattle.defs.proofs.Basics.{positive}
+use Rattle.queue.proofs.PlacesLaws.{long}
 use Rattle.queue.proofs.PopLaws.{pop-kept, pop-empty, pop-front}
 use Rattle.muxer_rxq.specs.Queue.{soundQ}
 use Rattle.muxer_rxq.proofs.QueueLaws.{lawful}
