@@ -15,12 +15,13 @@ use Rattle.defs.specs.Promises.{Refuses}
 use Rattle.defs.specs.declared.answer.Answer.{Answer}
 use Rattle.defs.specs.declared.answer.Answer.the-variants.{Done}
 use Rattle.defs.proofs.Basics.{both}
+use Rattle.defs.proofs.AnswerLaws.{done-passes}
 use Rattle.defs.proofs.ChoiceLaws.{when-true, when-false, when-holds}
 use Rattle.conn_map.specs.Key.{keyOf}
 use Rattle.conn_map.specs.Table.{usedAt, slotsOf, chosen}
 use Rattle.conn_map.specs.Order.{countBelow, amongFirst, SmallerOf}
 use Rattle.conn_map.proofs.OrderLaws.{listed, listed-length, listed-in-order, listed-first, take-smaller, listed-chosen, gathered-listed, by-list}
-use Rattle.queue.specs.Queued.{ListLeft, hasRoom, newOf}
+use Rattle.queue.specs.Queued.{ListLeft, newOf}
 use Rattle.queue.specs.Pop.{popOf}
 use Rattle.queue.proofs.QueueLaws.{queue-is-its-list}
 use Rattle.queue.proofs.AnswerLaws as answers
@@ -43,8 +44,8 @@ use Rattle.muxer_killq.proofs.SortLaws.{every-sort-is-stable, sort-leng
 not-refusing : (it : MuxerKillQItem) (l : List MuxerKillQItem) (limit : ℕ) (synced : Bool) → Refuses (told (pushList it l limit synced .answer)) → ⊥
 unfolding pushList
 not-refusing it l limit synced =
-    when-holds (λ (o : ListLeft MuxerKillQItem). Refuses (told (o .answer)) → ⊥) (hasRoom synced (length l) limit) _ _
-    (λ t r. absurd (omega (arith, r .0)))
+    when-holds (λ (o : ListLeft MuxerKillQItem). Refuses (told (o .answer)) → ⊥) _ _ _
+    (λ t. done-passes)
     (λ t r. absurd (omega (arith, r .1)))
 
 pub refusals-change-nothing : RefusalsChangeNothing

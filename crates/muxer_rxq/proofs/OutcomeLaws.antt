@@ -22,7 +22,7 @@ use Rattle.conn_map.specs.Key.{keyOf}
 use Rattle.conn_map.specs.Table.{usedAt, slotsOf}
 use Rattle.conn_map.specs.Order.{countBelow, amongFirst, SmallerOf}
 use Rattle.conn_map.proofs.OrderLaws.{listed, listed-length, listed-in-order, listed-first, take-smaller, gathered-listed, by-list}
-use Rattle.queue.specs.Queued.{ListLeft, leaves, hasRoom, newOf}
+use Rattle.queue.specs.Queued.{ListLeft, leaves, newOf}
 use Rattle.queue.specs.Pop.{popOf}
 use Rattle.queue.proofs.QueueLaws.{queue-is-its-list, sound-says}
 use Rattle.queue.proofs.AnswerLaws as answers
@@ -41,9 +41,9 @@ not-refusing : (rx : MuxerRx) (l : List MuxerRx) (limit : ℕ) (synced : Bool) �
 unfolding pushList evictList
 not-refusing rx l limit synced =
     let Keeps : ListLeft MuxerRx → Type 0 = λ (o : ListLeft MuxerRx). Refuses (told (o .answer)) → ⊥ in
-    when-holds Keeps (hasRoom synced (length l) limit) _ _
+    when-holds Keeps _ _ _
     (λ t. done-passes)
-    (λ t. when-holds Keeps (rx .rst) _ _ (λ r. when-holds Keeps (eqb (lastConn l) 0) _ _ (λ n. turned) (λ n. done-passes)) (λ r. turned))
+    (λ t. when-holds Keeps _ _ _ (λ r. when-holds Keeps _ _ _ (λ n. turned) (λ n. done-passes)) (λ r. turned))
   where
     turned : Refuses (told NotQueued) → ⊥
     turned r = omega (arith, r .1)

@@ -14,7 +14,7 @@ use Rattle.defs.specs.Credit.{peerNeedsCreditUpdate}
 use Rattle.defs.specs.Ladder.{doorOf, lateOf, lowestOf}
 use Rattle.defs.specs.Look.{FlagLeft, flagOf}
 use Rattle.defs.specs.Promises.{Refuses, Exactly}
-use Rattle.defs.specs.Stream.{counted, failed}
+use Rattle.defs.specs.Stream.{counted}
 use Rattle.defs.specs.declared.answer.Answer.{Answer}
 use Rattle.defs.specs.declared.answer.Answer.the-variants.{Done}
 use Rattle.defs.proofs.Basics.{never, both, true-or-false, positive, or-true, or-false}
@@ -229,16 +229,22 @@ flushed-update c readable ring n fails =
     let u = c .«pending_rx» .«credit_update» in
     when-holds (λ (x : VsockConnection). x .«pending_rx» .«credit_update» ≡ u) fails _ _ (λ t. or-false (u || false) ∙ or-false u) (λ t. or-false u)
 
+-- so one is due after a flush, whether that killed or not
+drained-due : (c : VsockConnection) (readable : Bool) (ring : TxBuf) (n : ℕ) (fails : Bool)
+    → DueOn (c .«pending_rx» .«credit_update») (drainedOf (seenOf c readable) ring n (quiet ring) fails)
+unfolding drainedOf
+drained-due c readable ring n fails =
+    let x = when fails (killedOf (movedOf (seenOf c readable) ring n)) (movedOf (seenOf c readable) ring n) in
+    subst (λ (b : Bool). DueOn b (settledOf x (quiet ring))) (flushed-update c readable ring n fails)
+    (settled-due x (quiet ring) (ap quiet (sym (flushed-ring (seenOf c readable) ring n fails))))
+
 notify-due : (i : NotifyIn) (o : NotifyLeft) → o ≡ notifyOf i → o .answer .number ≡ 0 → i .writable ≡ true → 1 ≤ usedOf (i .conn .«tx_buf»)
     → DueOn (i .conn .«pending_rx» .«credit_update») (o .conn)
-unfolding notifyOf notifyDone notifyKept drainedOf quiet
+unfolding notifyOf notifyDone notifyKept quiet
 notify-due i o says n w l =
     let d : due i ≡ true = rw w (ap not (ne-eqb (usedOf (i .conn .«tx_buf»)) 0 (λ e. omega arith))) in
-    let x = when (failed (i .answers .first)) (killedOf (movedOf (seenOf (i .conn) (i .readable)) (flushed i .ring) (flushed i .count))) (movedOf (seenOf (i .conn) (i .readable)) (flushed i .ring) (flushed i .count)) in
-    let z : o .conn ≡ settledOf x (quiet (flushed i .ring)) =
-    ap (λ (y : NotifyLeft). y .conn) (left-done (λ (y : NotifyLeft). y .answer) (notifyAnswer i) (notifyDone i) (notifyKept i) o refl says n) ∙ when-true _ _ _ d in
-    rw z (subst (λ (b : Bool). DueOn b (settledOf x (quiet (flushed i .ring)))) (flushed-update (i .conn) (i .readable) (flushed i .ring) (flushed i .count) (failed (i .answers .first)))
-    (settled-due x (quiet (flushed i .ring)) (ap quiet (sym (flushed-ring (seenOf (i .conn) (i .readable)) (flushed i .ring) (flushed i .count) (failed (i .answers .first)))))))
+    let z = ap (λ (y : NotifyLeft). y .conn) (left-done (λ (y : NotifyLeft). y .answer) (notifyAnswer i) (notifyDone i) (notifyKept i) o refl says n) ∙ when-true _ _ _ d in
+    subst (DueOn (i .conn .«pending_rx» .«credit_update»)) (sym z) (drained-due (i .conn) (i .readable) (flushed i .ring) (flushed i .count) _)
 
 pub update-is-due : UpdateIsDue
 update-is-due = record { send = send-due; notify = notify-due }

@@ -489,6 +489,25 @@ every-send-leaves i o says n =
 
 -- ---- an event
 
+-- an event leaves the timer and what the guest was told
+abbrev Keeps : VsockConnection → VsockConnection → Type 0
+Keeps c d = (d .expiry ≡ c .expiry) × (d .«last_fwd_cnt_to_peer» ≡ c .«last_fwd_cnt_to_peer»)
+
+flush-keeps : (c : VsockConnection) (readable : Bool) (ring : TxBuf) (n : ℕ) (empty fails : Bool) → Keeps c (drainedOf (seenOf c readable) ring n empty fails)
+unfolding drainedOf settledOf killedOf updatedOf movedOf seenOf withState
+flush-keeps c readable ring n empty fails =
+    let m = movedOf (seenOf c readable) ring n in
+    let x = when fails (killedOf m) m in
+    let k : Keeps c x = when-holds (Keeps c) fails _ _ (λ t. (refl, refl)) (λ t. (refl, refl)) in
+    when-holds (Keeps c) (bothOff (x .state) && empty) _ _ (λ t. k) (λ t. k)
+
+event-keeps : (i : NotifyIn) (o : NotifyLeft) → o ≡ notifyOf i → Keeps (i .conn) (o .conn)
+unfolding notifyOf notifyDone notifyKept seenOf withState
+event-keeps i o says =
+    rw says
+    (when-done-holds (λ (x : NotifyLeft). Keeps (i .conn) (x .conn)) (notifyAnswer i) (notifyDone i) (notifyKept i)
+    (when-holds (Keeps (i .conn)) (due i) _ _ (λ t. flush-keeps (i .conn) (i .readable) _ _ _ _) (λ t. (refl, refl))) (refl, refl))
+
 sum-none : (b u : Bool) (x y : ℕ) → x ≡ 0 → u ≡ false → when b x 0 + when u y 0 ≡ 0
 unfolding when
 sum-none true u x y e f = rw (e, f)
@@ -785,25 +804,6 @@ every-raw-leaves i o says = record {
 }
 
 -- ---- timers, and what the guest was told
-
--- what every record from here on keeps of another
-abbrev Keeps : VsockConnection → VsockConnection → Type 0
-Keeps c d = (d .expiry ≡ c .expiry) × (d .«last_fwd_cnt_to_peer» ≡ c .«last_fwd_cnt_to_peer»)
-
-flush-keeps : (c : VsockConnection) (readable : Bool) (ring : TxBuf) (n : ℕ) (empty fails : Bool) → Keeps c (drainedOf (seenOf c readable) ring n empty fails)
-unfolding drainedOf settledOf killedOf updatedOf movedOf seenOf withState
-flush-keeps c readable ring n empty fails =
-    let m = movedOf (seenOf c readable) ring n in
-    let x = when fails (killedOf m) m in
-    let k : Keeps c x = when-holds (Keeps c) fails _ _ (λ t. (refl, refl)) (λ t. (refl, refl)) in
-    when-holds (Keeps c) (bothOff (x .state) && empty) _ _ (λ t. k) (λ t. k)
-
-event-keeps : (i : NotifyIn) (o : NotifyLeft) → o ≡ notifyOf i → Keeps (i .conn) (o .conn)
-unfolding notifyOf notifyDone notifyKept seenOf withState
-event-keeps i o says =
-    rw says
-    (when-done-holds (λ (x : NotifyLeft). Keeps (i .conn) (x .conn)) (notifyAnswer i) (notifyDone i) (notifyKept i)
-    (when-holds (Keeps (i .conn)) (due i) _ _ (λ t. flush-keeps (i .conn) (i .readable) _ _ _ _) (λ t. (refl, refl))) (refl, refl))
 
 kill-keeps : (c : VsockConnection) (o : ConnLeft) → o ≡ killOf c → Keeps c (o .conn)
 unfolding killOf killedOf withState

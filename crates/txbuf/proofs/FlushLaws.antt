@@ -45,6 +45,10 @@ use Rattle.txbuf.proofs.RingLaws.{held-cong, held-run, held-take, held-
 pub advanced-none : (b : TxBuf) → Wide b → advanced b 0 ≡ b
 advanced-none b w = ap (λ (i : ℕ). record { size = b .size; head = b .head; tail = i }) (ap (λ (i : ℕ). i % 2 ^ 32) (add-zero (b .tail)) ∙ mod-eq-of-lt (w .tail))
 
+pub no-piece : (b : TxBuf) (st : List ℕ) → soundOf b (length st) ≡ false → [] ≡ firstPiece b st
+unfolding firstPiece
+no-piece b st s = sym (when-false _ [] _ s)
+
 -- the first piece of a sound ring
 sound-piece : (b : TxBuf) (st : List ℕ) → soundOf b (length st) ≡ true
     → firstPiece b st ≡ take (pieceLen (b .size) (b .tail) (usedOf b)) (drop (b .tail % b .size) st)
@@ -100,10 +104,6 @@ piece-is b st u n s f g =
     let w = sound-says b (length st) s .whole in
     let k : b .tail % b .size + n - b .tail % b .size ≡ pieceLen (b .size) (b .tail) (usedOf b) = omega arith in
     rw (sound-piece b st s, k)
-
-pub no-piece : (b : TxBuf) (st : List ℕ) → soundOf b (length st) ≡ false → [] ≡ firstPiece b st
-unfolding firstPiece
-no-piece b st s = sym (when-false _ [] _ s)
 
 -- ---- what is taken goes by the offset alone, and a would-block takes nothing
 
