@@ -19,7 +19,7 @@ leaf: ## take apart what the copying function compiles to
 	@scripts/alone scripts/leaf-check
 
 vectors: ## lay the outside vectors of the header out anew, by the C compiler
-	@scripts/header-vectors
+	@scripts/alone scripts/header-vectors
 
 compare: ## the port beside the original Rust, call by call; SEED=.. CALLS=.., by default a new seed and 200000
 	@scripts/alone oracle/compare.sh $(SEED) $(CALLS)
@@ -28,9 +28,7 @@ compare-if-at-hand: ## the same where cargo and the Rust are at hand, else a lin
 	@scripts/alone oracle/compare-if-at-hand.sh $(SEED) $(CALLS)
 
 beyond: ## what the original Rust does with the calls of docs/DIFFERENCES.md
-	@mkdir -p target/original
-	@oracle/build.sh original >target/original/build.log || { cat target/original/build.log; exit 1; }
-	@target/original/build/release/oracle beyond
+	@scripts/alone oracle/beyond.sh
 
 slips: ## put slips into a copy of the Rust, each of which the comparison must find
 	@scripts/alone oracle/slips.sh

@@ -12,11 +12,11 @@ use native.Mathlib.Numerals.{add-one}
 use Rattle.defs.specs.Limits.{minSlots, maxSlots, isSlotCount}
 use Rattle.defs.specs.Promises.{Exactly}
 use Rattle.defs.proofs.Basics.{both, both-true, never, true-or-false, or-left, or-right}
+use Rattle.defs.proofs.MeansLaws.{some-means}
 use Rattle.defs.proofs.ChoiceLaws.{when-true, when-false}
 use Rattle.conn_map.specs.Key.{keyOf}
 use Rattle.conn_map.specs.Table.{Slot, slotAt, slotsFrom, slotsOf, chosen, gathered, anyBelow, usedAt, hit, distinct, soundTable}
-use Rattle.conn_map.specs.Promises.{PortsTellKeys, NoTwoAlike, SoundMeans}
-use Rattle.conn_map.specs.declared.key.ConnMapKey.{ConnMapKey}
+use Rattle.conn_map.specs.Promises.{SamePorts, NoTwoAlike, SoundMeans, NumberIsPorts}
 
 clashing : {A : Type 0} (b : Bool) → b ≡ true → b ≡ false → A
 clashing b e f = absurd (never (sym f ∙ e))
@@ -94,22 +94,28 @@ module _ (ports used : List ℕ) where
 
 -- ---- what the test means
 
-pub ports-tell-keys : PortsTellKeys
+pub number-is-ports : NumberIsPorts
 unfolding keyOf
-ports-tell-keys a b e =
-    let q : a / 2 ^ 32 ≡ b / 2 ^ 32 = ap (λ (k : ConnMapKey). k .«local_port») e in
-    let r : a % 2 ^ 32 ≡ b % 2 ^ 32 = ap (λ (k : ConnMapKey). k .«peer_port») e in
-    omega arith
+number-is-ports ports = (omega arith, omega arith)
+
+same-number : (a b : ℕ) → SamePorts a b → a ≡ b
+same-number a b s = omega (arith, s .0, s .1)
+
+used-means : (used : List ℕ) (i : ℕ) → Exactly (usedAt used i ≡ true) (0 < getD used i 0)
+unfolding usedAt
+used-means used i = some-means (getD used i 0)
 
 distinct-means : (ports used : List ℕ) → Exactly (distinct ports used ≡ true) (NoTwoAlike ports used)
 distinct-means ports used = (
-  λ d i j o h u v k. never (sym (of-clash ports used (record { i = i; j = j; order = o; inside = h; used-i = u; used-j = v; same = ports-tell-keys _ _ k })) ∙ d),
+  λ d i j o h u v k. never (sym (of-clash ports used (record { i = i; j = j; order = o; inside = h; used-i = used-means used i .1 u; used-j = used-means used j .1 v; same = same-number _ _ k })) ∙ d),
   λ n.
       ⊎-elim
       (λ (d : distinct ports used ≡ true). d)
       (λ (d : distinct ports used ≡ false).
       let c = clash-of ports used d in
-      absurd (n (c .i) (c .j) (c .order) (c .inside) (c .used-i) (c .used-j) (ap keyOf (c .same))))
+      absurd
+      (n (c .i) (c .j) (c .order) (c .inside) (used-means used (c .i) .0 (c .used-i)) (used-means used (c .j) .0 (c .used-j))
+      (ap (λ (p : ℕ). p / 2 ^ 32) (c .same), ap (λ (p : ℕ). p % 2 ^ 32) (c .same))))
       (true-or-false (distinct ports used)),
 )
 

@@ -1,5 +1,5 @@
 -- What this crate promises, in statements only; proofs/Promises has a line for each. Assumes nothing.
-use Prim.Native.Nat.{ℕ, _≤_, _<_}
+use Prim.Native.Nat.{ℕ, _+_, _*_, _/_, _%_, _^_, _≤_, _<_}
 use mathlib.Core.Path.{_≡_}
 use mathlib.Core.Bool.{Bool, true}
 use mathlib.Core.List.{List}
@@ -8,13 +8,17 @@ use Rattle.defs.specs.Promises.{Exactly}
 use Rattle.defs.specs.Reading.{Hold}
 use Rattle.conn_map.specs.Key.{keyOf}
 use Rattle.conn_map.specs.Edges.{lastPair, farPair, sameMark}
-use Rattle.conn_map.specs.Table.{Slot, usedAt, slotAt, slotsOf, gathered, soundTable}
+use Rattle.conn_map.specs.Table.{Slot, slotAt, slotsOf, gathered, soundTable}
 use Rattle.conn_map.specs.Order.{InSlotOrder}
+
+-- the ports that two numbers stand for are the same, the local ones and the peer ones
+abbrev pub SamePorts : ℕ → ℕ → Type 0
+SamePorts a b = (a / 2 ^ 32 ≡ b / 2 ^ 32) × (a % 2 ^ 32 ≡ b % 2 ^ 32)
 
 -- 01: no two used slots have the same ports
 abbrev pub NoTwoAlike : List ℕ → List ℕ → Type 0
 NoTwoAlike ports used =
-    (i j : ℕ) → i < j → j < length ports → usedAt used i ≡ true → usedAt used j ≡ true → keyOf (getD ports i 0) ≡ keyOf (getD ports j 0) → ⊥
+    (i j : ℕ) → i < j → j < length ports → 0 < getD used i 0 → 0 < getD used j 0 → SamePorts (getD ports i 0) (getD ports j 0) → ⊥
 
 -- a table is sound: 1 to 512 slots, the slices equally long, no two used slots with the same ports
 abbrev pub Sound : List ℕ → List ℕ → ℕ → Type 0
@@ -37,6 +41,6 @@ pub record EdgesHold : Type 0 where
   pub far-pair : Hold farPair
   pub same-mark : Hold sameMark
 
--- one number for both ports tells keys apart
-abbrev pub PortsTellKeys : Type 0
-PortsTellKeys = (a b : ℕ) → keyOf a ≡ keyOf b → a ≡ b
+-- one number is both ports: the local one times 2^32, and the peer one
+abbrev pub NumberIsPorts : Type 0
+NumberIsPorts = (ports : ℕ) → (keyOf ports .«local_port» * 2 ^ 32 + keyOf ports .«peer_port» ≡ ports) × (keyOf ports .«peer_port» < 2 ^ 32)

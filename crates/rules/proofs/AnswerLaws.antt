@@ -13,7 +13,7 @@ use Rattle.defs.specs.Answer.{Told, told, isDone, whenDone}
 use Rattle.defs.specs.Ladder.{doorOf, lateOf, lowestOf, recordAnswer}
 use Rattle.defs.specs.Look.{FlagLeft, flagOf}
 use Rattle.defs.specs.Limits.{isHeaderLength, isClock, isPacketLength}
-use Rattle.defs.specs.Promises.{Exactly}
+use Rattle.defs.specs.Promises.{Exactly, AnswersInTurn}
 use Rattle.defs.specs.Stream.{counted, readCounted, stoppedBy, stops}
 use Rattle.defs.specs.declared.answer.Answer.{Answer}
 use Rattle.defs.specs.declared.answer.Answer.the-variants.{Done}
@@ -43,7 +43,8 @@ use Rattle.rules.specs.Receive.{RecvIn, RecvLeft, readsOf, askedOf, recv
 use Rattle.rules.specs.Notify.{NotifyIn, NotifyLeft, due, flushIn, absorbed, notifyDoor, notifyAnswer, notifyDone, notifyKept, notifyOf}
 use Rattle.rules.specs.Raw.{RawIn, RawLeft, rawCount, rawDoor, rawAnswer, rawDone, rawKept, rawOf}
 use Rattle.rules.specs.Outcomes.{turnOf}
-use Rattle.rules.specs.Answers.{OpenAnswers, LookAnswers, PacketTooLong, Writes, SendAnswers, askedNow, RecvAnswers, Flushes, NotifyAnswers, RawAnswers, DoorAnswers}
+use Rattle.rules.specs.Offer.{RecvGiven, RecvDoorSays, AskedLeft, recvAsked}
+use Rattle.rules.specs.Answers.{OpenAnswers, LookAnswers, PacketTooLong, Writes, SendAnswers, askedNow, RecvAnswers, Flushes, NotifyAnswers, RawAnswers, recvDoorRows, DoorAnswers}
 use Rattle.rules.proofs.RecordLaws.{settings-mean, sound-means, sound-over-ring}
 
 -- ---- a packet
@@ -224,19 +225,24 @@ door-number false false true l = refl
 door-number false false false true = refl
 door-number false false false false = refl
 
+recv-door-answers : (g : RecvGiven) (t : Told) → RecvDoorSays g t → AnswersInTurn t (recvDoorRows g)
+unfolding recvDoor
+recv-door-answers g t says =
+    by-turn t
+    (row 1 (not-means (sound-means .alone (g .conn))) ∷ row 2 (not-means (limits-mean .header (length (g .hdr)))) ∷ row 3 (clock-over (g .clock))
+    ∷ row 4 (and-means (as-is (g .present)) (packet-over (length (g .buf)))) ∷ [])
+    (ap (λ (x : Told). x .number) says ∙ door-number _ _ _ _)
+
 pub door-answers : DoorAnswers
-unfolding sendDoor sendDoorOf recvDoor notifyDoor rawDoor when
+unfolding sendDoor sendDoorOf notifyDoor rawDoor recvAsked when
 door-answers = record {
   send = λ g t says.
       by-turn t
       (row 1 (not-means (sound-means .over (g .conn) (length (g .store)))) ∷ row 2 (not-means (limits-mean .header (length (g .hdr)))) ∷ row 3 (clock-over (g .clock))
       ∷ row 4 (too-long-means (g .present) (length (g .buf)) (g .hdr)) ∷ [])
       (ap (λ (x : Told). x .number) says ∙ door-number _ _ _ _);
-  recv = λ g t says.
-      by-turn t
-      (row 1 (not-means (sound-means .alone (g .conn))) ∷ row 2 (not-means (limits-mean .header (length (g .hdr)))) ∷ row 3 (clock-over (g .clock))
-      ∷ row 4 (and-means (as-is (g .present)) (packet-over (length (g .buf)))) ∷ [])
-      (ap (λ (x : Told). x .number) says ∙ door-number _ _ _ _);
+  recv = recv-door-answers;
+  asked = λ g o says. recv-door-answers g (o .answer) (ap (λ (x : AskedLeft). x .answer) says);
   notify = λ c store t says. by-record _ _ _ says (sound-means .over c (length store));
   raw = λ c buf t says.
       by-turn t (row 1 (not-means (sound-means .alone c)) ∷ row 4 (packet-over (length buf)) ∷ []) (ap (λ (x : Told). x .number) says ∙ door-number _ false false _);

@@ -23,7 +23,7 @@ use Rattle.rules.specs.Send.{SendIn, SendLeft, SendSays}
 use Rattle.rules.specs.Receive.{RecvIn, RecvLeft, RecvSays}
 use Rattle.rules.specs.Notify.{NotifyIn, NotifyLeft, NotifySays}
 use Rattle.rules.specs.Raw.{RawIn, RawLeft, RawSays}
-use Rattle.rules.specs.Offer.{SendGiven, SendDoorSays, RecvGiven, RecvDoorSays, NotifyDoorSays, RawDoorSays}
+use Rattle.rules.specs.Offer.{SendGiven, SendDoorSays, RecvGiven, RecvDoorSays, AskedLeft, RecvAskedSays, NotifyDoorSays, RawDoorSays}
 use Rattle.rules.specs.Outcomes.{turnOf}
 use Rattle.rules.specs.declared.record.Settings.{Settings}
 use Rattle.rules.specs.declared.record.VsockConnection.{VsockConnection}
@@ -158,6 +158,11 @@ RawAnswers = (i : RawIn) (left : RawLeft) → RawSays i left → AnswersInTurn (
 
 -- ---- the doors: the same rows, as far as they look at no answer of the stream
 
+-- of a turn: what `recv_asked` answers too
+abbrev pub recvDoorRows : RecvGiven → List (ℕ × Type 0)
+recvDoorRows g =
+    (1, Sound (g .conn) → ⊥) ∷ (2, length (g .hdr) ≡ 44 → ⊥) ∷ (3, 2 ^ 62 < g .clock) ∷ (4, (g .present ≡ true) × (65536 < length (g .buf))) ∷ []
+
 pub record DoorAnswers : Type 0 where
   pub send : (g : SendGiven) (t : Told) → SendDoorSays g t
       → AnswersInTurn t
@@ -166,8 +171,7 @@ pub record DoorAnswers : Type 0 where
       ∷ (3, 2 ^ 62 < g .clock)
       ∷ (4, PacketTooLong (g .present) (length (g .buf)) (g .hdr))
       ∷ [])
-  pub recv : (g : RecvGiven) (t : Told) → RecvDoorSays g t
-      → AnswersInTurn t
-      ((1, Sound (g .conn) → ⊥) ∷ (2, length (g .hdr) ≡ 44 → ⊥) ∷ (3, 2 ^ 62 < g .clock) ∷ (4, (g .present ≡ true) × (65536 < length (g .buf))) ∷ [])
+  pub recv : (g : RecvGiven) (t : Told) → RecvDoorSays g t → AnswersInTurn t (recvDoorRows g)
+  pub asked : (g : RecvGiven) (o : AskedLeft) → RecvAskedSays g o → AnswersInTurn (o .answer) (recvDoorRows g)
   pub notify : (c : VsockConnection) (store : List ℕ) (t : Told) → NotifyDoorSays c store t → AnswersInTurn t ((1, SoundOver c (length store) → ⊥) ∷ [])
   pub raw : (c : VsockConnection) (buf : List ℕ) (t : Told) → RawDoorSays c buf t → AnswersInTurn t ((1, Sound c → ⊥) ∷ (4, 65536 < length buf) ∷ [])

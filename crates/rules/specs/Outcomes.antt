@@ -22,7 +22,6 @@ use Rattle.csm.specs.Pending.{none}
 use Rattle.csm.specs.Said.{Turn, Said, saidNow, rwGone}
 use Rattle.csm.specs.declared.state.ConnState.the-variants.{Killed}
 use Rattle.csm.specs.declared.timer.Timer.the-variants.{At}
-use Rattle.rules.specs.Record.{peerOf, onwardOf, regrouped}
 use Rattle.rules.specs.Open.{ConnLeft}
 use Rattle.rules.specs.Look.{PendingSays, Timed, WillExpireSays, HasExpiredSays, ExpiryLeft, ExpirySays, StateLeft, StateSays, EvSetLeft, EvSetSays, KillSays}
 use Rattle.rules.specs.Raw.{RawIn, RawLeft, RawSays}
@@ -128,10 +127,22 @@ headerNow c said = record {
 
 -- the record after it: indications, state and timer as said; sent rises by len, last-told becomes fwd_cnt where the turn tells it; nothing else moves
 abbrev pub connNow : VsockConnection → Said → VsockConnection
-connNow c said =
-    regrouped c (peerOf c) (onwardOf c)
-    (record { count = wadd (c .«rx_cnt») (said .len); lastTold = when (said .tells) (c .«fwd_cnt») (c .«last_fwd_cnt_to_peer») })
-    (record { state = said .state; expiry = said .expiry; pending = said .pending })
+connNow c said = record {
+  settings = c .settings;
+  state = said .state;
+  «local_cid» = c .«local_cid»;
+  «peer_cid» = c .«peer_cid»;
+  «local_port» = c .«local_port»;
+  «peer_port» = c .«peer_port»;
+  «tx_buf» = c .«tx_buf»;
+  «fwd_cnt» = c .«fwd_cnt»;
+  «peer_buf_alloc» = c .«peer_buf_alloc»;
+  «peer_fwd_cnt» = c .«peer_fwd_cnt»;
+  «rx_cnt» = wadd (c .«rx_cnt») (said .len);
+  «last_fwd_cnt_to_peer» = when (said .tells) (c .«fwd_cnt») (c .«last_fwd_cnt_to_peer»);
+  «pending_rx» = said .pending;
+  expiry = said .expiry;
+}
 
 -- a turn that isn't refused, answers 0, 7 and 8: the whole record, the whole header and the whole buffer by 01's order
 pub record TurnLeaves (i : RecvIn) (o : RecvLeft) : Type 0 where
