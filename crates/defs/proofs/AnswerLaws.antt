@@ -78,6 +78,14 @@ pub when-not-done {ℓ} : {A : Type ℓ} (a : Answer) (x y : A) → isDone a ≡
 unfolding whenDone
 when-not-done a x y e = when-false x y (isDone a) e
 
+-- what isn't done is told by a number over 0
+pub when-refused {ℓ} : {A : Type ℓ} (a : Answer) (x y : A) → (told a .number ≡ 0 → ⊥) → whenDone a x y ≡ y
+when-refused a x y n =
+    ⊎-elim
+    (λ (t : isDone a ≡ true). absurd (n (ap (λ (b : Answer). told b .number) (is-done a t))))
+    (λ (t : isDone a ≡ false). when-not-done a x y t)
+    (true-or-false (isDone a))
+
 -- what holds of what is left either way holds of what is left
 pub when-done-holds {ℓ} : {A : Type ℓ} (P : A → Type 0) (a : Answer) (x y : A) → P x → P y → P (whenDone a x y)
 unfolding whenDone

@@ -5,9 +5,10 @@ use mathlib.Core.Bool.{Bool, true, false}
 use Rattle.defs.specs.Answer.{Told, told, whenDone}
 use Rattle.defs.specs.Ladder.{recordAnswer}
 use Rattle.defs.specs.Look.{FlagLeft, flagOf, LenLeft, lenOf}
+use Rattle.defs.specs.Promises.{RefusedTellsNothing}
 use Rattle.defs.specs.declared.answer.Answer.{Answer}
 use Rattle.defs.specs.declared.answer.Answer.the-variants.{Done}
-use Rattle.defs.proofs.AnswerLaws.{when-done-alike}
+use Rattle.defs.proofs.AnswerLaws.{when-refused, when-done-alike}
 use Rattle.defs.proofs.LadderLaws.{record-passed}
 
 told-alike : {A Out : Type 0} (make : Told → A → Out) (none : A) (left : Out) (a b : Answer) (x y : A) → left ≡ make (told a) (whenDone a x none) → a ≡ b
@@ -32,3 +33,10 @@ record-flag-told left a t sound x y e f g alike = flag-told left a _ x y e (f �
 pub record-len-told : (left : LenLeft) (a : Answer) (t sound : Bool) (x y : ℕ) → left ≡ lenOf a x → a ≡ recordAnswer t → t ≡ sound → (sound ≡ true → x ≡ y)
     → left ≡ lenOf (recordAnswer sound) y
 record-len-told left a t sound x y e f g alike = len-told left a _ x y e (f ∙ ap recordAnswer g) (λ d. alike (record-passed _ sound refl d))
+
+pub refused-tells-nothing : RefusedTellsNothing
+unfolding flagOf lenOf
+refused-tells-nothing = record {
+  flag = λ a value left says n. ap (λ (l : FlagLeft). l .holds) says ∙ when-refused a value false (λ z. n (ap (λ (l : FlagLeft). l .answer .number) says ∙ z));
+  len = λ a value left says n. ap (λ (l : LenLeft). l .len) says ∙ when-refused a value 0 (λ z. n (ap (λ (l : LenLeft). l .answer .number) says ∙ z));
+}

@@ -2,9 +2,11 @@
 use mathlib.Core.Path.{refl}
 use Rattle.defs.specs.Credit.{peerAvailCredit, peerNeedsCreditUpdate}
 use Rattle.defs.specs.Edges.{readingE, readingH}
-use Rattle.defs.specs.Promises.{ToldTellsApart, LowestNumber, RecordAnswers, ClockAnswers, RingSizes, LimitsMean, WrapsAround, KeepsPlace, CreditIsFreeSpace, ThresholdTells, EdgesHold}
+use Rattle.defs.specs.Promises.{ToldTellsApart, LowestNumber, RecordAnswers, ClockAnswers, RefusedTellsNothing, StreamMeans, RingSizes, LimitsMean, WrapsAround, KeepsPlace, CreditIsFreeSpace, ThresholdTells, EdgesHold}
 use Rattle.defs.proofs.AnswerLaws as answers
 use Rattle.defs.proofs.LadderLaws as ladder
+use Rattle.defs.proofs.LookLaws as looks
+use Rattle.defs.proofs.StreamLaws as stream
 use Rattle.defs.proofs.LimitLaws as limits
 use Rattle.defs.proofs.WrappingLaws as wrapping
 use Rattle.defs.proofs.CreditLaws as credit
@@ -20,6 +22,12 @@ record-answers = ladder.record-answers
 
 pub clock-answers : ClockAnswers
 clock-answers = ladder.clock-answers
+
+pub refused-tells-nothing : RefusedTellsNothing
+refused-tells-nothing = looks.refused-tells-nothing
+
+pub stream-means : StreamMeans
+stream-means = stream.stream-means
 
 pub ring-sizes : RingSizes
 ring-sizes = limits.ring-sizes

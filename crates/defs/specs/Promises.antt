@@ -1,17 +1,24 @@
 -- What this crate promises, in statements only; proofs/Promises has a line for each. Assumes nothing.
 use Prim.Native.Nat.{ℕ, _+_, _-_, _%_, _^_, _<_, _≤_}
 use mathlib.Core.Path.{_≡_}
+use mathlib.Core.Logic.{_⊎_}
 use mathlib.Core.Bool.{Bool, true, false}
 use mathlib.Core.List.{List, [], _∷_}
 use lib.ListN.{getD}
 use Rattle.defs.specs.Answer.{Told, told}
 use Rattle.defs.specs.Limits.{isRingSize, isThreshold, isTimeout, isRxqLimit, isKillqLimit, isSlotCount, isClock, isPacketLength, isHeaderLength}
 use Rattle.defs.specs.Ladder.{doorOf, lateOf, lowestOf, recordAnswer, clockAnswer}
+use Rattle.defs.specs.Look.{FlagLeft, FlagSays, LenLeft, LenSays}
+use Rattle.defs.specs.Stream.{counted, failed, stops, stoppedBy, readCounted, readBlocks}
 use Rattle.defs.specs.Wrapping.{wadd, wsub}
 use Rattle.defs.specs.Credit.{peerAvailCredit, peerNeedsCreditUpdate}
 use Rattle.defs.specs.Reading.{Hold}
 use Rattle.defs.specs.Edges.{readingE, readingH}
 use Rattle.defs.specs.declared.answer.Answer.{Answer}
+use Rattle.defs.specs.declared.stream.StreamAnswer.{StreamAnswer}
+use Rattle.defs.specs.declared.stream.StreamAnswer.the-variants.{Count, WouldBlock, Failed}
+use Rattle.defs.specs.declared.stream.ReadAnswer.{ReadAnswer}
+use Rattle.defs.specs.declared.stream.ReadAnswer.the-variants.{Count as ReadCount, WouldBlock as ReadWouldBlock}
 
 -- each of the two facts holds where the other does
 abbrev pub Exactly : Type 0 → Type 0 → Type 0
@@ -50,6 +57,22 @@ RecordAnswers = (sound : Bool) → AnswersInTurn (told (recordAnswer sound)) ((1
 
 abbrev pub ClockAnswers : Type 0
 ClockAnswers = (sound : Bool) (ms : ℕ) → AnswersInTurn (told (clockAnswer sound ms)) ((1, sound ≡ false) ∷ (3, 2 ^ 62 < ms) ∷ [])
+
+-- where it is not done, a call that only looks tells nothing: no, or 0
+pub record RefusedTellsNothing : Type 0 where
+  pub flag : (a : Answer) (value : Bool) (left : FlagLeft) → FlagSays a value left → (left .answer .number ≡ 0 → ⊥) → left .holds ≡ false
+  pub len : (a : Answer) (value : ℕ) (left : LenLeft) → LenSays a value left → (left .answer .number ≡ 0 → ⊥) → left .len ≡ 0
+
+-- 01: an answer from the stream is a count, a would-block or a failure. Only a count takes or brings bytes; a direct call ends by 10 where its first write
+-- blocks or fails, and the answer tells which
+pub record StreamMeans : Type 0 where
+  pub takes : (a : StreamAnswer) (n : ℕ) → 0 < n → Exactly (counted a ≡ n) (a ≡ Count n)
+  pub fails : (a : StreamAnswer) → Exactly (failed a ≡ true) (a ≡ Failed)
+  pub stops : (a : StreamAnswer) → Exactly (stops a ≡ true) ((a ≡ WouldBlock) ⊎ (a ≡ Failed))
+  pub ten : (a : StreamAnswer) → Exactly (told (stoppedBy a) .number ≡ 10) ((a ≡ WouldBlock) ⊎ (a ≡ Failed))
+  pub which : (a : StreamAnswer) → Exactly (told (stoppedBy a) .failed ≡ true) (a ≡ Failed)
+  pub brings : (a : ReadAnswer) (n : ℕ) → 0 < n → Exactly (readCounted a ≡ n) (a ≡ ReadCount n)
+  pub blocks : (a : ReadAnswer) → Exactly (readBlocks a ≡ true) (a ≡ ReadWouldBlock)
 
 -- a power of two
 abbrev pub PowerOfTwo : ℕ → Type 0
