@@ -1,7 +1,8 @@
 -- Laws of the header: what reads and stores at its offsets make, and both ways there and back. Assumes nothing.
 use Prim.Native.Nat.{ℕ, _+_}
 use mathlib.Core.Path.{_≡_, refl, ap, _∙_, sym}
-use mathlib.Core.Bool.{false}
+use mathlib.Core.Logic.{⊎-elim}
+use mathlib.Core.Bool.{true, false}
 use mathlib.Core.List.{List, [], append-nil}
 use native.Mathlib.Omega.{arith}
 use lib.ListN.{length, drop-of-length-le}
@@ -9,11 +10,12 @@ use lib.Seq.{sets, sets-eq, take-all}
 use Rattle.defs.specs.Answer.{told}
 use Rattle.defs.specs.Limits.{headerSize, isHeaderLength}
 use Rattle.defs.specs.declared.answer.Answer.the-variants.{Done, BadHeader}
+use Rattle.defs.proofs.Basics.{true-or-false}
 use Rattle.defs.proofs.LimitLaws.{header-length}
 use Rattle.defs.proofs.ChoiceLaws.{when-true, when-false}
 use Rattle.packet.specs.Le.{packed, unpacked}
 use Rattle.packet.specs.Header.{layout, fields, ofFields, encoded, decoded, decodeOf, encodeOf, DecodeLeft, EncodeLeft}
-use Rattle.packet.specs.Promises.{Bytes, Fit, DecodeAfterEncode, EncodeAfterDecode}
+use Rattle.packet.specs.Promises.{Bytes, Fit, DecodeReads, DecodeAfterEncode, EncodeAfterDecode}
 use Rattle.packet.specs.declared.hdr.VsockPacketHdr.{VsockPacketHdr}
 use Rattle.packet.proofs.LeLaws.{unpacked-packed, packed-unpacked, numsAt, unpacked-at, stores, stores-packed}
 
@@ -62,6 +64,18 @@ pub encode-refused : (h : VsockPacketHdr) (out : List ℕ) → isHeaderLength (l
     → encodeOf (record { hdr = h; out = out }) ≡ record { answer = told BadHeader; out = out }
 unfolding encodeOf
 encode-refused h out e = when-false _ _ _ e
+
+-- each field's number, read at its place
+pub decode-reads : DecodeReads
+unfolding decoded
+decode-reads s left says n =
+    ⊎-elim
+    (λ (t : isHeaderLength (length s) ≡ true).
+    ap (λ (o : DecodeLeft). o .hdr) (says ∙ decode-done s (header-length (length s) .0 t)) ∙ ap ofFields (unpacked-at 0 layout s))
+    (λ (t : isHeaderLength (length s) ≡ false).
+    let e : _≡_ {A = ℕ} 2 0 = ap (λ (o : DecodeLeft). o .answer .number) (sym (says ∙ decode-refused s t)) ∙ n in
+    absurd (omega arith))
+    (true-or-false (isHeaderLength (length s)))
 
 -- ---- both round trips
 

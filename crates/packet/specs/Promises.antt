@@ -1,15 +1,17 @@
 -- What this crate promises, in statements only; proofs/Promises has a line for each. Assumes nothing.
-use Prim.Native.Nat.{ℕ, _^_, _<_}
+use Prim.Native.Nat.{ℕ, _/_, _%_, _^_, _<_}
 use mathlib.Core.Path.{_≡_}
+use mathlib.Core.Logic.{_⊎_}
 use mathlib.Core.List.{List, [], _∷_}
 use lib.ListN.{length, getD, replicate}
 use Rattle.defs.specs.Answer.{told}
 use Rattle.defs.specs.Limits.{headerSize}
-use Rattle.defs.specs.Promises.{AnswersInTurn, Refuses}
+use Rattle.defs.specs.Promises.{Exactly, AnswersInTurn, Refuses}
 use Rattle.defs.specs.Reading.{Hold}
 use Rattle.defs.specs.declared.answer.Answer.the-variants.{Done}
-use Rattle.packet.specs.Le.{offsets}
-use Rattle.packet.specs.Header.{layout, fields, toldDecoded, DecodeLeft, decodeOf, DecodeSays, EncodeIn, EncodeLeft, encodeOf, EncodeSays}
+use Rattle.packet.specs.Le.{offsets, numAt}
+use Rattle.packet.specs.Uapi.{opRequest, opResponse, opRst, opShutdown, opRw, opCreditUpdate, opCreditRequest, typeStream, flagShutdownRcv, flagShutdownSend}
+use Rattle.packet.specs.Header.{layout, fields, flagged, toldDecoded, DecodeLeft, decodeOf, DecodeSays, EncodeIn, EncodeLeft, encodeOf, EncodeSays}
 use Rattle.packet.specs.Edges.{readingA, wrongLengths}
 use Rattle.packet.specs.declared.hdr.VsockPacketHdr.{VsockPacketHdr}
 use Rattle.packet.specs.declared.hdr.Decoded.{Decoded}
@@ -28,6 +30,51 @@ Fit (w ∷ ws) (n ∷ ns) = (n < 256 ^ w) × Fit ws ns
 -- the widths put each field where 01 and the standard have it, and end at the header's length
 abbrev pub FieldsStandAt : Type 0
 FieldsStandAt = offsets 0 layout ≡ 0 ∷ 8 ∷ 16 ∷ 20 ∷ 24 ∷ 28 ∷ 30 ∷ 32 ∷ 36 ∷ 40 ∷ headerSize ∷ []
+
+-- and of 44 bytes decode gives the little-endian number that stands at each field's place
+abbrev pub DecodeReads : Type 0
+DecodeReads =
+    (bytes : List ℕ) (left : DecodeLeft) → DecodeSays bytes left → left .answer .number ≡ 0
+    → left .hdr ≡ record {
+      «src_cid» = numAt bytes 0 8;
+      «dst_cid» = numAt bytes 8 8;
+      «src_port» = numAt bytes 16 4;
+      «dst_port» = numAt bytes 20 4;
+      len = numAt bytes 24 4;
+      «type_» = numAt bytes 28 2;
+      op = numAt bytes 30 2;
+      flags = numAt bytes 32 4;
+      «buf_alloc» = numAt bytes 36 4;
+      «fwd_cnt» = numAt bytes 40 4;
+    }
+
+-- 01 and the standard: the numbers of the ops, of a stream's type and of a SHUTDOWN's flags
+pub record NumbersAre : Type 0 where
+  pub request : opRequest ≡ 1
+  pub response : opResponse ≡ 2
+  pub rst : opRst ≡ 3
+  pub shutdown : opShutdown ≡ 4
+  pub rw : opRw ≡ 5
+  pub credit-update : opCreditUpdate ≡ 6
+  pub credit-request : opCreditRequest ≡ 7
+  pub stream : typeStream ≡ 1
+  pub receive-off : flagShutdownRcv ≡ 1
+  pub send-off : flagShutdownSend ≡ 2
+
+-- bit k of a number
+abbrev pub bit : ℕ → ℕ → ℕ
+bit n k = n / 2 ^ k % 2
+
+-- `set_flag`: a bit of the flags is set exactly where it was or the flag has it, and all else stays
+pub record FlagAdds (h : VsockPacketHdr) (flag : ℕ) (o : VsockPacketHdr) : Type 0 where
+  pub flags : (k : ℕ) → Exactly (bit (o .flags) k ≡ 1) ((bit (h .flags) k ≡ 1) ⊎ (bit flag k ≡ 1))
+  pub cids : (o .«src_cid» ≡ h .«src_cid») × (o .«dst_cid» ≡ h .«dst_cid»)
+  pub ports : (o .«src_port» ≡ h .«src_port») × (o .«dst_port» ≡ h .«dst_port»)
+  pub kind : (o .len ≡ h .len) × (o .«type_» ≡ h .«type_») × (o .op ≡ h .op)
+  pub credit : (o .«buf_alloc» ≡ h .«buf_alloc») × (o .«fwd_cnt» ≡ h .«fwd_cnt»)
+
+abbrev pub EveryFlagAdds : Type 0
+EveryFlagAdds = (h : VsockPacketHdr) (flag : ℕ) → FlagAdds h flag (flagged h flag)
 
 -- what was encoded is decoded: for fields that fit, whatever stood in the buffer
 abbrev pub DecodeAfterEncode : Type 0
