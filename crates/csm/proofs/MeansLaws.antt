@@ -10,15 +10,15 @@ use Rattle.csm.specs.declared.state.ConnState.the-variants.{LocalInit, P
 use Rattle.csm.specs.declared.timer.Timer.the-variants.{Unset, At}
 
 pub every-state-means : EveryStateMeans
-every-state-means LocalInit = record { takes = refl; gives = refl; polls = refl; asks = refl; both = refl }
-every-state-means PeerInit = record { takes = refl; gives = refl; polls = refl; asks = refl; both = refl }
-every-state-means Established = record { takes = refl; gives = refl; polls = refl; asks = refl; both = refl }
-every-state-means LocalClosed = record { takes = refl; gives = refl; polls = refl; asks = refl; both = refl }
-every-state-means (PeerClosed true true) = record { takes = refl; gives = refl; polls = refl; asks = refl; both = refl }
-every-state-means (PeerClosed true false) = record { takes = refl; gives = refl; polls = refl; asks = refl; both = refl }
-every-state-means (PeerClosed false true) = record { takes = refl; gives = refl; polls = refl; asks = refl; both = refl }
-every-state-means (PeerClosed false false) = record { takes = refl; gives = refl; polls = refl; asks = refl; both = refl }
-every-state-means Killed = record { takes = refl; gives = refl; polls = refl; asks = refl; both = refl }
+every-state-means LocalInit = record { takes = refl; gives = refl; polls = refl; asks = refl; both = refl; established = refl }
+every-state-means PeerInit = record { takes = refl; gives = refl; polls = refl; asks = refl; both = refl; established = refl }
+every-state-means Established = record { takes = refl; gives = refl; polls = refl; asks = refl; both = refl; established = refl }
+every-state-means LocalClosed = record { takes = refl; gives = refl; polls = refl; asks = refl; both = refl; established = refl }
+every-state-means (PeerClosed true true) = record { takes = refl; gives = refl; polls = refl; asks = refl; both = refl; established = refl }
+every-state-means (PeerClosed true false) = record { takes = refl; gives = refl; polls = refl; asks = refl; both = refl; established = refl }
+every-state-means (PeerClosed false true) = record { takes = refl; gives = refl; polls = refl; asks = refl; both = refl; established = refl }
+every-state-means (PeerClosed false false) = record { takes = refl; gives = refl; polls = refl; asks = refl; both = refl; established = refl }
+every-state-means Killed = record { takes = refl; gives = refl; polls = refl; asks = refl; both = refl; established = refl }
 
 unset : (time : ℕ) → Unset ≡ At time → ⊥
 unset time e = let z : _≡_ {A = ℕ} 0 1 = cc in omega arith

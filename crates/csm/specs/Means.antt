@@ -4,7 +4,7 @@ use Prim.Native.Nat.{ℕ, _≤_, _<_}
 use mathlib.Core.Path.{_≡_}
 use mathlib.Core.Bool.{Bool, true, false}
 use Rattle.defs.specs.Promises.{Exactly}
-use Rattle.csm.specs.State.{polls, gives, takes, asks, bothOff}
+use Rattle.csm.specs.State.{polls, gives, takes, asks, bothOff, isEstablished}
 use Rattle.csm.specs.Timer.{isAfter, isDue}
 use Rattle.csm.specs.declared.state.ConnState.{ConnState}
 use Rattle.csm.specs.declared.state.ConnState.the-variants.{LocalInit, PeerInit, Established, LocalClosed, PeerClosed, Killed}
@@ -62,12 +62,22 @@ shutBoth (PeerClosed true false) = false
 shutBoth (PeerClosed false sendOff) = false
 shutBoth Killed = false
 
+-- Established alone
+abbrev pub isOpen : ConnState → Bool
+isOpen LocalInit = false
+isOpen PeerInit = false
+isOpen Established = true
+isOpen LocalClosed = false
+isOpen (PeerClosed recvOff sendOff) = false
+isOpen Killed = false
+
 pub record StatesMean (s : ConnState) : Type 0 where
   pub takes : takes s ≡ takesData s
   pub gives : gives s ≡ servesData s
   pub polls : polls s ≡ waitsForData s
   pub asks : asks s ≡ answersRequest s
   pub both : bothOff s ≡ shutBoth s
+  pub established : isEstablished s ≡ isOpen s
 
 abbrev pub EveryStateMeans : Type 0
 EveryStateMeans = (s : ConnState) → StatesMean s

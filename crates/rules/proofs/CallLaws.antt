@@ -18,7 +18,7 @@ use Rattle.defs.specs.Stream.{counted}
 use Rattle.defs.specs.declared.answer.Answer.{Answer}
 use Rattle.defs.specs.declared.answer.Answer.the-variants.{Done}
 use Rattle.defs.proofs.Basics.{never, both, true-or-false, positive, or-true, or-false}
-use Rattle.defs.proofs.AnswerLaws.{done-is-done, is-done, done-passes, when-done, when-not-done, number-zero, answer-told, left-done, left-kept}
+use Rattle.defs.proofs.AnswerLaws.{done-is-done, is-done, done-passes, when-done, when-not-done, when-refused, number-zero, answer-told, left-done, left-kept}
 use Rattle.defs.proofs.ChoiceLaws.{when-true, when-false, when-holds}
 use Rattle.packet.specs.Header.{encoded, decoded}
 use Rattle.packet.proofs.HeaderLaws.{decoded-encoded}
@@ -42,7 +42,7 @@ use Rattle.rules.specs.Raw.{RawLeft, rawAnswer, rawDone, rawKept, rawOf}
 use Rattle.rules.specs.Receive.{RecvIn, RecvLeft, spokenOf, receivedOf, headerOf, recvDoor, recvRefusal, refusalOf, nextStep, recvDone, recvKept, recvOf}
 use Rattle.rules.specs.Send.{heardOf, movedOf, updatedOf, onResponse, onShutdown, onCreditRequest, onData, ruleOf, goesOf, planOf, killsOf, SendIn, SendLeft, pktOf, sendPlan, sendAnswer, sendKills, sendCarried, sendDone, sendKept, sendOf, accepted}
 use Rattle.rules.specs.Notify.{NotifyIn, NotifyLeft, seenOf, settledOf, drainedOf, due, flushed, notifyAnswer, notifyDone, notifyKept, notifyOf}
-use Rattle.rules.specs.Outcomes.{TurnLeaves, HeaderTells, initialised, SevenAndEightLeave, turnOf, headerNow, connNow, EveryTurnLeaves, RefusalsChangeNothing, EverySendHears, meetsData, writesNow, takenNow, killsNow, acceptedNow, EverySendAccepts, fallsShort, UpdateIsDue, KillMeans, EveryKillKills, EveryPollPolls, ExpiryMeans, LooksTell}
+use Rattle.rules.specs.Outcomes.{TurnLeaves, HeaderTells, initialised, SevenAndEightLeave, turnOf, headerNow, connNow, EveryTurnLeaves, RefusalsChangeNothing, EverySendHears, meetsData, writesNow, takenNow, killsNow, acceptedNow, EverySendAccepts, fallsShort, UpdateIsDue, KillMeans, EveryKillKills, EveryPollPolls, ExpiryMeans, LooksTell, RefusedTellsNothing}
 use Rattle.rules.specs.declared.record.VsockConnection.{VsockConnection}
 use Rattle.rules.specs.declared.plan.SendPlan.{SendPlan}
 
@@ -397,4 +397,14 @@ looks-tell = record {
       (λ e. none-of (p .request) (p .response) (p .rst) (p .rw) (p .«credit_update») (sym z ∙ e), λ e. z ∙ ap isPending e);
   state = λ c o says n. ap (λ (x : StateLeft). x .state) says ∙ field-done (lookAnswer c) _ _ (ap (λ (x : StateLeft). x .answer .number) (sym says) ∙ n);
   expiry = λ c o says n. ap (λ (x : ExpiryLeft). x .expiry) says ∙ field-done (lookAnswer c) _ _ (ap (λ (x : ExpiryLeft). x .answer .number) (sym says) ∙ n);
+}
+
+pub refused-tells-nothing : RefusedTellsNothing
+unfolding expiryOf stateOf evSetOf
+refused-tells-nothing = record {
+  expiry = λ c o says n. ap (λ (x : ExpiryLeft). x .expiry) says ∙ when-refused (lookAnswer c) _ _ (λ z. n (ap (λ (x : ExpiryLeft). x .answer .number) says ∙ z));
+  state = λ c o says n. ap (λ (x : StateLeft). x .state) says ∙ when-refused (lookAnswer c) _ _ (λ z. n (ap (λ (x : StateLeft). x .answer .number) says ∙ z));
+  polled = λ c o says n.
+      let r : told (lookAnswer c) .number ≡ 0 → ⊥ = λ z. n (ap (λ (x : EvSetLeft). x .answer .number) says ∙ z) in
+      (ap (λ (x : EvSetLeft). x .readable) says ∙ when-refused (lookAnswer c) _ _ r, ap (λ (x : EvSetLeft). x .writable) says ∙ when-refused (lookAnswer c) _ _ r);
 }

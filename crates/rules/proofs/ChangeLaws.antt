@@ -42,7 +42,7 @@ use Rattle.txbuf.specs.declared.record.TxBuf.{TxBuf}
 use Rattle.csm.specs.State.{isLocalInit, isEstablished, recvOff, sendOff, shutBy, bothOff, asks}
 use Rattle.csm.specs.Pending.{marked}
 use Rattle.csm.specs.Timer.{later}
-use Rattle.csm.specs.Means.{takesData, shutBoth, answersRequest}
+use Rattle.csm.specs.Means.{takesData, shutBoth, answersRequest, isOpen}
 use Rattle.csm.proofs.Promises.{every-state-means}
 use Rattle.csm.specs.declared.state.ConnState.{ConnState}
 use Rattle.csm.specs.declared.state.ConnState.the-variants.{LocalInit, PeerInit, Established, LocalClosed, PeerClosed, Killed}
@@ -57,7 +57,7 @@ use Rattle.rules.specs.Send.{heardOf, movedOf, updatedOf, onResponse, on
 use Rattle.rules.specs.Moves.{Numbers}
 use Rattle.rules.specs.Outcomes.{meetsData, writesNow, takenNow, killsNow, fallsShort}
 use Rattle.rules.specs.Common.{TimersArm, LastToldMoves}
-use Rattle.rules.specs.Leaves.{pushedOn, takenOff, shutsReceive, shutsSend, closedBy, closedNow, confirmed, dataKills, dataStays, stateNow, cleared, isOpen, lingersNow, timerNow, flushesNow, flushFails, flushEnds, SendLeaves, NotifyLeaves, EveryNotifyLeaves, Opened, OpeningMeans, AllZero, RefusedIsZero, EveryRawLeaves, EverySendLeaves}
+use Rattle.rules.specs.Leaves.{pushedOn, takenOff, shutsReceive, shutsSend, closedBy, closedNow, confirmed, dataKills, dataStays, stateNow, cleared, lingersNow, timerNow, flushesNow, flushFails, flushEnds, SendLeaves, NotifyLeaves, EveryNotifyLeaves, Opened, OpeningMeans, AllZero, RefusedIsZero, EveryRawLeaves, EverySendLeaves}
 use Rattle.rules.specs.declared.record.VsockConnection.{VsockConnection}
 use Rattle.rules.specs.declared.plan.SendPlan.{SendPlan}
 use Rattle.rules.proofs.RecordLaws.{sound-over-ring}
@@ -725,7 +725,7 @@ fresh-opened o alloc state request response = record {
   settings = refl;
   cids = (refl, refl);
   ports = (refl, refl);
-  ring = (refl, refl);
+  ring = (refl, refl, refl);
   counts = (refl, refl, refl, refl);
   expiry = refl;
   quiet = (refl, refl, refl);

@@ -24,7 +24,7 @@ use Rattle.rules.specs.Notify.{seenOf, absorbed, settledOf, drainedOf, n
 use Rattle.rules.specs.Open.{freshOf, openAnswer, peerInitOf, localInitOf}
 use Rattle.rules.specs.Receive.{spokenOf, receivedOf, headerOf, recvDoor, recvRefusal, recvDone, recvKept, recvOf}
 use Rattle.rules.specs.Send.{heardOf, movedOf, updatedOf, onResponse, onShutdown, onData, ruleOf, goesOf, planOf, killsOf, sendDoorOf, sendLate, carried, sendDoor, sendAnswer, sendDone, sendKept, sendOf, accepted}
-use Rattle.rules.specs.Runs.{before, after, storeAfter, Steps, Run, tookBy, acceptedBy, deliveredBy, outs}
+use Rattle.rules.specs.Runs.{before, after, storeAfter, Steps, Run, tookBy, acceptedBy, deliveredBy, outs, Pushless}
 use Rattle.rules.specs.Stories.{startA, a1, a2, a3, a4, a5, a6, a7, storeA, storyA, upToA5, endStoreA, startB, b1, b2, b3, b4, storyB, endStoreB, c3, c4, storyC, endStoreC, d2, storeD, d3, d4, d5, draining, startE, e1, e2, e3, e4, e5, storyE, endStoreE, ten, f6, endStoreF, f7, storyF, g2, endStoreG, storyG, StoriesHold}
 use Rattle.rules.proofs.RunLaws.{run-numbers, every-run-forwards, cuts-do-not-matter}
 use Rattle.rules.proofs.FlagLaws.{flags-only-grow}
@@ -136,13 +136,12 @@ computed = record {
   outs-2 = refl;
 }
 
-two-drained : usedOf (after d5 .«tx_buf») ≡ 0
+none-pushed : Pushless draining
 unfolding Each
-two-drained =
-    let v = computed in
-    drains draining (after d2) (after d5) storeD storeD (run-numbers up-to-d2) drain-steps
-    (v .head-5 ∙ sym (v .head-4), (v .head-4 ∙ sym (v .head-3), (v .head-3 ∙ sym (v .head-2), tt)))
-    (omega (arith, v .held-2, v .outs-2))
+none-pushed = let v = computed in (v .head-5 ∙ sym (v .head-4), (v .head-4 ∙ sym (v .head-3), (v .head-3 ∙ sym (v .head-2), tt)))
+
+two-drained : usedOf (after d5 .«tx_buf») ≡ 0
+two-drained = drains draining (after d2) (after d5) storeD storeD (run-numbers up-to-d2) drain-steps none-pushed (omega (arith, computed .held-2, computed .outs-2))
 
 pub stories-hold : StoriesHold
 stories-hold =
@@ -162,6 +161,9 @@ stories-hold =
       grown = flags-only-grow _ _ _ _ up-to-a5 a6 (refl, refl, refl) true false (v .half-off);
       both-off = v .both-off;
       two-held = v .held-2;
+      draining-is = drain-steps;
+      two-outs = v .outs-2;
+      none-pushed = none-pushed;
       drained = two-drained;
       first-header = v .header;
     }

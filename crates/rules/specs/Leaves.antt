@@ -16,7 +16,7 @@ use Rattle.txbuf.specs.Record.{usedOf, held}
 use Rattle.txbuf.specs.Push.{written}
 use Rattle.txbuf.specs.Means.{countedNow}
 use Rattle.txbuf.specs.declared.record.TxBuf.{TxBuf}
-use Rattle.csm.specs.Means.{shutBoth, answersRequest}
+use Rattle.csm.specs.Means.{shutBoth, answersRequest, isOpen}
 use Rattle.csm.specs.Pending.{none}
 use Rattle.csm.specs.declared.state.ConnState.{ConnState}
 use Rattle.csm.specs.declared.state.ConnState.the-variants.{LocalInit, PeerInit, Established, LocalClosed, PeerClosed, Killed}
@@ -162,12 +162,12 @@ EveryNotifyLeaves = (i : NotifyIn) (o : NotifyLeft) → Numbers (i .conn) → No
 
 -- ---- an opening
 
--- an empty ring of the given size, every count 0, no timer, and one indication pending, RESPONSE or REQUEST
+-- an empty ring of the given size with head and tail 0, every count 0, no timer, and one indication pending, RESPONSE or REQUEST
 pub record Opened (o : Opening) (c : VsockConnection) : Type 0 where
   pub settings : c .settings ≡ o .settings
   pub cids : (c .«local_cid» ≡ o .«local_cid») × (c .«peer_cid» ≡ o .«peer_cid»)
   pub ports : (c .«local_port» ≡ o .«local_port») × (c .«peer_port» ≡ o .«peer_port»)
-  pub ring : (c .«tx_buf» .size ≡ o .size) × (usedOf (c .«tx_buf») ≡ 0)
+  pub ring : (c .«tx_buf» .size ≡ o .size) × (c .«tx_buf» .head ≡ 0) × (c .«tx_buf» .tail ≡ 0)
   pub counts : (c .«fwd_cnt» ≡ 0) × (c .«rx_cnt» ≡ 0) × (c .«peer_fwd_cnt» ≡ 0) × (c .«last_fwd_cnt_to_peer» ≡ 0)
   pub expiry : c .expiry ≡ Unset
   pub quiet : (c .«pending_rx» .rst ≡ false) × (c .«pending_rx» .rw ≡ false) × (c .«pending_rx» .«credit_update» ≡ false)
@@ -228,15 +228,6 @@ cleared Established t = t
 cleared LocalClosed t = t
 cleared (PeerClosed a b) t = t
 cleared Killed t = t
-
--- Established alone
-abbrev pub isOpen : ConnState → Bool
-isOpen LocalInit = false
-isOpen PeerInit = false
-isOpen Established = true
-isOpen LocalClosed = false
-isOpen (PeerClosed a b) = false
-isOpen Killed = false
 
 -- a SHUTDOWN in Established that has both flags, while bytes are held
 abbrev pub lingersNow : SendIn → Bool

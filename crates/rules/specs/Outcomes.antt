@@ -20,8 +20,8 @@ use Rattle.txbuf.specs.Record.{usedOf}
 use Rattle.csm.specs.Means.{takesData, waitsForData, shutBoth}
 use Rattle.csm.specs.Pending.{none}
 use Rattle.csm.specs.Said.{Turn, Said, saidNow, rwGone}
-use Rattle.csm.specs.declared.state.ConnState.the-variants.{Killed}
-use Rattle.csm.specs.declared.timer.Timer.the-variants.{At}
+use Rattle.csm.specs.declared.state.ConnState.the-variants.{LocalInit, Killed}
+use Rattle.csm.specs.declared.timer.Timer.the-variants.{Unset, At}
 use Rattle.rules.specs.Open.{ConnLeft}
 use Rattle.rules.specs.Look.{PendingSays, Timed, WillExpireSays, HasExpiredSays, ExpiryLeft, ExpirySays, StateLeft, StateSays, EvSetLeft, EvSetSays, KillSays}
 use Rattle.rules.specs.Raw.{RawIn, RawLeft, RawSays}
@@ -212,3 +212,9 @@ pub record LooksTell : Type 0 where
   pub pending : (c : VsockConnection) (o : FlagLeft) → PendingSays c o → o .answer .number ≡ 0 → Exactly (o .holds ≡ false) (c .«pending_rx» ≡ none)
   pub state : (c : VsockConnection) (o : StateLeft) → StateSays c o → o .answer .number ≡ 0 → o .state ≡ c .state
   pub expiry : (c : VsockConnection) (o : ExpiryLeft) → ExpirySays c o → o .answer .number ≡ 0 → o .expiry ≡ c .expiry
+
+-- where it is not done a look tells nothing: no timer, LocalInit, no event (those that tell a yes or no: `RefusedTellsNothing` of `defs`)
+pub record RefusedTellsNothing : Type 0 where
+  pub expiry : (c : VsockConnection) (o : ExpiryLeft) → ExpirySays c o → (o .answer .number ≡ 0 → ⊥) → o .expiry ≡ Unset
+  pub state : (c : VsockConnection) (o : StateLeft) → StateSays c o → (o .answer .number ≡ 0 → ⊥) → o .state ≡ LocalInit
+  pub polled : (c : VsockConnection) (o : EvSetLeft) → EvSetSays c o → (o .answer .number ≡ 0 → ⊥) → (o .readable ≡ false) × (o .writable ≡ false)

@@ -18,7 +18,7 @@ use Rattle.rules.specs.Open.{Opening, peerInitOf, localInitOf}
 use Rattle.rules.specs.Receive.{RecvIn, recvOf}
 use Rattle.rules.specs.Send.{SendIn, sendOf}
 use Rattle.rules.specs.Notify.{NotifyIn, notifyOf}
-use Rattle.rules.specs.Runs.{Event, sends, receives, notifies, before, after, storeAfter, Start, Run, tookBy, acceptedBy, deliveredBy, Forwards, Alike}
+use Rattle.rules.specs.Runs.{Event, sends, receives, notifies, before, after, storeAfter, Start, Run, tookBy, acceptedBy, deliveredBy, Forwards, Alike, Steps, outs, Pushless}
 use Rattle.rules.specs.declared.record.VsockConnection.{VsockConnection}
 
 -- ---- what the stories are told with
@@ -253,5 +253,8 @@ pub record StoriesHold : Type 0 where
   pub grown : Grown true false (after a6 .state)
   pub both-off : after a6 .state ≡ PeerClosed true true
   pub two-held : usedOf (after d2 .«tx_buf») ≡ 2
+  pub draining-is : Steps (after d2) storeD draining (after d5) storeD
+  pub two-outs : outs draining ≡ 2
+  pub none-pushed : Pushless draining
   pub drained : usedOf (after d5 .«tx_buf») ≡ 0
   pub first-header : gathered deliveredBy storyA ≡ bytesA ∷ []

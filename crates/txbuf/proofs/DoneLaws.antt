@@ -23,10 +23,10 @@ use Rattle.defs.proofs.LadderLaws.{record-passed}
 use Rattle.defs.proofs.LimitLaws.{ring-sizes}
 use Rattle.defs.proofs.MeansLaws.{equal-means}
 use Rattle.txbuf.specs.Record.{Wide, usedOf, soundOf, held, NewLeft, newOf, lookAnswer}
-use Rattle.txbuf.specs.Push.{written, PushIn, PushLeft, pushAnswerOf, pushDone, pushOf}
+use Rattle.txbuf.specs.Push.{written, PushIn, PushLeft, pushAnswerOf, pushDone, pushOf, NumberedLeft, numbered}
 use Rattle.txbuf.specs.Flush.{FlushIn, FlushLeft, endsBy, flushAnswer, flushCount, flushOver, flushDone, flushKept, flushOf}
 use Rattle.txbuf.specs.Means.{bytesHeld, Sound, SoundOver, firstLength, secondLength, usesFirst, usesSecond, countedNow}
-use Rattle.txbuf.specs.Outcomes.{SoundStaysSound, NewIsEmpty, EveryPushMeans, FlushMeans, EveryFlushMeans, withAnswers, UnreachedIsIgnored, LooksMean}
+use Rattle.txbuf.specs.Outcomes.{SoundStaysSound, NewIsEmpty, EveryPushMeans, NumberedIsPush, FlushMeans, EveryFlushMeans, withAnswers, UnreachedIsIgnored, LooksMean}
 use Rattle.txbuf.specs.declared.record.TxBuf.{TxBuf}
 use Rattle.txbuf.proofs.RecordLaws.{sound-means, is-sound, held-length, used-after, used-advanced}
 use Rattle.txbuf.proofs.AnswerLaws.{push-told, Ready, ready, tooMuch, count-is, over-is, flush-told, sound-done, not-over, room-left}
@@ -163,7 +163,12 @@ new-is size o says n =
     (record-passed _ (isRingSize size) refl d, ap (λ (x : NewLeft). x .ring) says ∙ when-done _ _ _ d)
 
 pub new-is-empty : NewIsEmpty
-new-is-empty size o says n = let e = new-is size o says n .1 in (ap (λ (b : TxBuf). b .size) e, ap bytesHeld e)
+new-is-empty size o says n = let e = new-is size o says n .1 in (ap (λ (b : TxBuf). b .size) e, ap (λ (b : TxBuf). b .head) e, ap (λ (b : TxBuf). b .tail) e)
+
+pub numbered-is-push : NumberedIsPush
+numbered-is-push i o p says said =
+    let e = says ∙ ap numbered (sym said) in
+    (ap (λ (x : NumberedLeft). x .number) e, ap (λ (x : NumberedLeft). x .store) e)
 
 pub sound-stays-sound : SoundStaysSound
 sound-stays-sound = record {
@@ -230,6 +235,7 @@ unreached-is-ignored = record {
 pub looks-mean : LooksMean
 unfolding lenOf flagOf
 looks-mean = record {
+  used = λ b. refl;
   len = λ b o says n.
       ap (λ (x : LenLeft). x .len) says ∙ when-done (lookAnswer b) _ _ (number-zero (lookAnswer b) (ap (λ (x : LenLeft). x .answer .number) (sym says) ∙ n));
   is-empty = λ b o says n.

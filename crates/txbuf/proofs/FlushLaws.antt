@@ -32,6 +32,7 @@ use Rattle.defs.proofs.LadderLaws.{late-passed, lowest-done, lowest-refused, lo
 use Rattle.defs.proofs.CopyLaws.{copied-fits}
 use Rattle.defs.proofs.WrappingLaws.{keeps-place}
 use Rattle.txbuf.specs.Record.{Wide, usedOf, soundOf, heldFrom, held}
+use Rattle.txbuf.specs.Means.{SoundOver}
 use Rattle.txbuf.specs.Flush.{pieceLen, firstPiece, takenBy, overBy, endsBy, FlushIn, FlushLeft, inTurn, flushCount, flushOver, flushAnswer, advanced, secondPiece, flushDone, flushKept, flushOf, FlushSays, finishAnswer, finishOf}
 use Rattle.txbuf.specs.Promises.{TakesOldest, FlushTakesOldest, FlushProgresses, FirstPieceIsOldest, UnsoundHasNoPiece, PiecesAreHeld}
 use Rattle.txbuf.specs.declared.record.TxBuf.{TxBuf}
@@ -713,12 +714,21 @@ flush-progresses i left n w says done e l =
 pub first-piece-is-oldest : FirstPieceIsOldest
 first-piece-is-oldest b store w s = piece-held b store (sound-says b (length store) (sound-means .over b (length store) .1 s)) w
 
-pub unsound-has-no-piece : UnsoundHasNoPiece
-unsound-has-no-piece b store n =
+unsound-first : (b : TxBuf) (store : List ℕ) → (SoundOver b (length store) → ⊥) → firstPiece b store ≡ []
+unsound-first b store n =
     ⊎-elim
     (λ (t : soundOf b (length store) ≡ true). absurd (n (sound-means .over b (length store) .0 t)))
     (λ (t : soundOf b (length store) ≡ false). sym (no-piece b store t))
     (true-or-false (soundOf b (length store)))
+
+pub unsound-has-no-piece : UnsoundHasNoPiece
+unfolding secondPiece
+unsound-has-no-piece = record {
+  first = unsound-first;
+  second = λ b store w n.
+      let e = unsound-first b store n in
+      ap (λ (p : List ℕ). firstPiece (advanced b (length p)) store) e ∙ ap (λ (r : TxBuf). firstPiece r store) (advanced-none b w) ∙ e;
+}
 
 -- what a flush that is done answers
 pub flushed-told : (i : FlushIn) → flushAnswer i ≡ Done → flushOf i .answer ≡ told Done

@@ -12,7 +12,7 @@ use Rattle.txbuf.specs.Edges.{readingBCD, readingF}
 use Rattle.txbuf.specs.Promises.{TwoRunsAreOneWrite, HeldIsCounted, PushAppends, FirstPieceIsOldest, UnsoundHasNoPiece, PiecesAreHeld, FlushTakesOldest, FlushProgresses, EdgesHold}
 use Rattle.txbuf.specs.Answers.{PushAnswers, NumberedAnswers, FlushAnswers, NewAnswers, LookAnswers}
 use Rattle.txbuf.specs.Means.{SoundMeans}
-use Rattle.txbuf.specs.Outcomes.{RefusalsChangeNothing, NineAndTenChangeNothing, SoundStaysSound, NewIsEmpty, EveryPushMeans, EveryFlushMeans, UnreachedIsIgnored, LooksMean}
+use Rattle.txbuf.specs.Outcomes.{RefusalsChangeNothing, NineAndTenChangeNothing, SoundStaysSound, NewIsEmpty, EveryPushMeans, NumberedIsPush, EveryFlushMeans, UnreachedIsIgnored, LooksMean}
 use Rattle.txbuf.proofs.AnswerLaws as answers
 use Rattle.txbuf.proofs.DoneLaws as done
 use Rattle.txbuf.proofs.RecordLaws as records
@@ -76,6 +76,9 @@ new-is-empty = done.new-is-empty
 
 pub every-push-means : EveryPushMeans
 every-push-means = done.every-push-means
+
+pub numbered-is-push : NumberedIsPush
+numbered-is-push = done.numbered-is-push
 
 pub every-flush-means : EveryFlushMeans
 every-flush-means = done.every-flush-means

@@ -38,9 +38,9 @@ pub record SoundStaysSound : Type 0 where
   pub flush : (i : FlushIn) (o : FlushLeft) → Wide (i .ring) → FlushSays i o → o .answer .number ≡ 0 → SoundOver (o .ring) (length (i .store))
   pub new : (size : ℕ) (o : NewLeft) → NewSays size o → o .answer .number ≡ 0 → Sound (o .ring)
 
--- a new ring has the size that was asked for, and is empty
+-- a new ring has the size that was asked for, and is empty, as in the Rust with head and tail 0
 abbrev pub NewIsEmpty : Type 0
-NewIsEmpty = (size : ℕ) (o : NewLeft) → NewSays size o → o .answer .number ≡ 0 → (o .ring .size ≡ size) × (bytesHeld (o .ring) ≡ 0)
+NewIsEmpty = (size : ℕ) (o : NewLeft) → NewSays size o → o .answer .number ≡ 0 → (o .ring .size ≡ size) × (o .ring .head ≡ 0) × (o .ring .tail ≡ 0)
 
 -- a push writes its bytes from the head offset on, modulo R, leaves every other place of the storage, and so many more are held
 pub record PushMeans (i : PushIn) (o : PushLeft) : Type 0 where
@@ -52,6 +52,10 @@ pub record PushMeans (i : PushIn) (o : PushLeft) : Type 0 where
 
 abbrev pub EveryPushMeans : Type 0
 EveryPushMeans = (i : PushIn) (o : PushLeft) → Wide (i .ring) → PushSays i o → o .answer .number ≡ 0 → PushMeans i o
+
+-- under its C name it answers the number of `push`, and leaves its storage
+abbrev pub NumberedIsPush : Type 0
+NumberedIsPush = (i : PushIn) (o : NumberedLeft) (p : PushLeft) → NumberedSays i o → PushSays i p → (o .number ≡ p .answer .number) × (o .store ≡ p .store)
 
 -- a flush takes the bytes that the used answers count from the tail offset on, modulo R, to the front of the outgoing buffer, the rest of which stays,
 -- and so many fewer are held
@@ -77,7 +81,8 @@ pub record UnreachedIsIgnored : Type 0 where
       → FlushSays (withAnswers i (record { first = i .answers .first; second = y })) other → usesSecond (i .ring) (i .answers) ≡ false → o ≡ other
   pub both : (i : FlushIn) (a : StreamAnswers) (o other : FlushLeft) → FlushSays i o → FlushSays (withAnswers i a) other → bytesHeld (i .ring) ≡ 0 → o ≡ other
 
--- `len` and `is_empty` tell how many bytes are held, and whether none
+-- `len` and `is_empty` tell how many bytes are held, and whether none; `used` tells head minus tail of any record
 pub record LooksMean : Type 0 where
+  pub used : (b : TxBuf) → usedOf b ≡ bytesHeld b
   pub len : (b : TxBuf) (o : LenLeft) → LenSays (lookAnswer b) (usedOf b) o → o .answer .number ≡ 0 → o .len ≡ bytesHeld b
   pub is-empty : (b : TxBuf) (o : FlagLeft) → FlagSays (lookAnswer b) (isEmpty b) o → o .answer .number ≡ 0 → Exactly (o .holds ≡ true) (bytesHeld b ≡ 0)

@@ -34,9 +34,10 @@ PushAppends =
 abbrev pub FirstPieceIsOldest : Type 0
 FirstPieceIsOldest = (b : TxBuf) (store : List ℕ) → Wide b → SoundOver b (length store) → firstPiece b store ≡ take (firstLength b) (held b store)
 
--- a ring that is not sound has none
-abbrev pub UnsoundHasNoPiece : Type 0
-UnsoundHasNoPiece = (b : TxBuf) (store : List ℕ) → (SoundOver b (length store) → ⊥) → firstPiece b store ≡ []
+-- a ring that is not sound has none, and no second
+pub record UnsoundHasNoPiece : Type 0 where
+  pub first : (b : TxBuf) (store : List ℕ) → (SoundOver b (length store) → ⊥) → firstPiece b store ≡ []
+  pub second : (b : TxBuf) (store : List ℕ) → Wide b → (SoundOver b (length store) → ⊥) → secondPiece b store ≡ []
 
 -- the two pieces of a sound ring are all that is held
 abbrev pub PiecesAreHeld : Type 0
