@@ -1,8 +1,9 @@
 -- The promises of specs/Promises, specs/Outcomes and specs/Answers, each by its law. Assumes nothing.
+use Rattle.queue.proofs.EveryLaws as every
 use Rattle.queue.proofs.QueueLaws as queues
 use Rattle.muxer_killq.specs.Queue.{killq}
 use Rattle.muxer_killq.specs.Promises.{QueueIsItsList, SoundStaysSound, EverySortIsStable, EdgesHold}
-use Rattle.muxer_killq.specs.Outcomes.{SoundMeans, RefusalsChangeNothing, RefusedIsEmpty, EveryNewIsEmpty, BuiltHolds, EveryPushMeans, EveryPeekMeans, EveryPopMeans, EqualityMeans}
+use Rattle.muxer_killq.specs.Outcomes.{SoundMeans, FrontAtPlaceZero, LooksMean, RefusalsChangeNothing, RefusedIsEmpty, EveryNewIsEmpty, BuiltHolds, EveryPushMeans, EveryPeekMeans, EveryPopMeans, EqualityMeans}
 use Rattle.muxer_killq.specs.Answers.{LookAnswers, NewAnswers, PopAnswers, PushAnswers, BuildAnswers}
 use Rattle.muxer_killq.proofs.AnswerLaws as answers
 use Rattle.muxer_killq.proofs.Edges as edges
@@ -23,6 +24,12 @@ every-sort-is-stable = sorts.every-sort-is-stable
 
 pub sound-means : SoundMeans
 sound-means = laws.sound-means
+
+pub front-at-place-zero : FrontAtPlaceZero
+front-at-place-zero = laws.front-at-place-zero
+
+pub looks-mean : LooksMean
+looks-mean q g = every.looks-mean killq lawful q g
 
 pub refusals-change-nothing : RefusalsChangeNothing
 refusals-change-nothing = outcomes.refusals-change-nothing

@@ -15,8 +15,11 @@ use Rattle.queue.specs.Queue.{Lawful}
 use Rattle.queue.proofs.EveryLaws as every
 use Rattle.muxer_killq.specs.Item.{zeroItem, isZero}
 use Rattle.muxer_killq.specs.Queue.{killq}
-use Rattle.muxer_killq.specs.Outcomes.{SoundMeans}
+use Rattle.muxer_killq.specs.Outcomes.{SoundMeans, FrontAtPlaceZero}
 use Rattle.muxer_killq.specs.declared.item.MuxerKillQItem.{MuxerKillQItem}
+
+pub front-at-place-zero : FrontAtPlaceZero
+front-at-place-zero = record { seen = λ q. refl; held = λ q. refl }
 
 zero-alone : (it : MuxerKillQItem) → isZero it ≡ true → it ≡ zeroItem
 unfolding isZero

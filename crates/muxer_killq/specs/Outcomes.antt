@@ -4,7 +4,7 @@ use Prim.Native.Nat.{ℕ, _+_, _/_, _%_, _^_, _≤_, _<_}
 use mathlib.Core.Path.{_≡_}
 use mathlib.Core.Bool.{Bool, true, false, not, _&&_}
 use lib.Dec.{ltb, eqb}
-use lib.ListN.{length, getD}
+use lib.ListN.{length, getD, take}
 use Rattle.defs.specs.Promises.{Exactly, Refuses}
 use Rattle.conn_map.specs.Table.{chosen}
 use Rattle.conn_map.specs.Order.{countBelow, amongFirst, SmallerOf, InSlotOrder}
@@ -36,6 +36,15 @@ Sound q = (1 ≤ q .limit) × (q .limit ≤ 128) × (q .len ≤ q .limit) × ((n
 -- its test says just that
 abbrev pub SoundMeans : Type 0
 SoundMeans = (q : MuxerKillQ) → Exactly (soundQ q ≡ true) (Sound q)
+
+-- 01: queue places are an array of records, front at place 0. So `queue` sees this record, and what it calls the items stands there
+pub record FrontAtPlaceZero : Type 0 where
+  pub seen : (q : MuxerKillQ) → killq .seen q ≡ record { places = q .q; len = q .len; limit = q .limit; synced = q .synced }
+  pub held : (q : MuxerKillQ) → items q ≡ take (q .len) (q .q)
+
+-- a look tells what stands in the record, of a sound queue whose array is as long as its type says
+abbrev pub LooksMean : Type 0
+LooksMean = (q : MuxerKillQ) → means.Given killq q → means.LooksMean killq q
 
 -- ---- refusals
 

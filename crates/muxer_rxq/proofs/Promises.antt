@@ -1,8 +1,9 @@
 -- The promises of specs/Promises, specs/Outcomes and specs/Answers, each by its law. Assumes nothing.
+use Rattle.queue.proofs.EveryLaws as every
 use Rattle.queue.proofs.QueueLaws as queues
 use Rattle.muxer_rxq.specs.Queue.{rxq}
 use Rattle.muxer_rxq.specs.Promises.{QueueIsItsList, SoundStaysSound, EdgesHold}
-use Rattle.muxer_rxq.specs.Outcomes.{SoundMeans, RefusalsChangeNothing, RefusedIsEmpty, EveryNewIsEmpty, BuiltHolds, EveryLastConnMeans, EveryPushMeans, EveryPeekMeans, EveryPopMeans}
+use Rattle.muxer_rxq.specs.Outcomes.{SoundMeans, FrontAtPlaceZero, LooksMean, RefusalsChangeNothing, RefusedIsEmpty, EveryNewIsEmpty, BuiltHolds, EveryLastConnMeans, EveryPushMeans, EveryPeekMeans, EveryPopMeans}
 use Rattle.muxer_rxq.specs.Answers.{LookAnswers, NewAnswers, PopAnswers, PushAnswers, BuildAnswers}
 use Rattle.muxer_rxq.proofs.AnswerLaws as answers
 use Rattle.muxer_rxq.proofs.Edges as edges
@@ -19,6 +20,12 @@ sound-stays-sound = sounds.sound-stays-sound
 
 pub sound-means : SoundMeans
 sound-means = laws.sound-means
+
+pub front-at-place-zero : FrontAtPlaceZero
+front-at-place-zero = laws.front-at-place-zero
+
+pub looks-mean : LooksMean
+looks-mean q g = every.looks-mean rxq lawful q g
 
 pub refusals-change-nothing : RefusalsChangeNothing
 refusals-change-nothing = outcomes.refusals-change-nothing

@@ -10,8 +10,11 @@ use Rattle.defs.proofs.Basics.{both}
 use Rattle.queue.specs.Queue.{Lawful}
 use Rattle.queue.proofs.EveryLaws as every
 use Rattle.muxer_rxq.specs.Queue.{zeroItem, isZero, rxq}
-use Rattle.muxer_rxq.specs.Outcomes.{SoundMeans}
+use Rattle.muxer_rxq.specs.Outcomes.{SoundMeans, FrontAtPlaceZero}
 use Rattle.muxer_rxq.specs.declared.rxq.MuxerRx.{MuxerRx}
+
+pub front-at-place-zero : FrontAtPlaceZero
+front-at-place-zero = record { seen = λ q. refl; held = λ q. refl }
 
 zero-alone : (it : MuxerRx) → isZero it ≡ true → it ≡ zeroItem
 unfolding isZero

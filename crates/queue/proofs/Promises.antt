@@ -1,5 +1,5 @@
 -- The promises of specs/Promises, each by its law. Assumes nothing.
-use Rattle.queue.specs.Promises.{EveryQueueIsItsList, SoundStaysSound, EverySoundMeans, EveryMadeIsEmpty, RefusalsChangeNothing, EveryPeekMeans, EveryPopMeans, EveryLookAnswers, EveryNewAnswers, EdgesHold}
+use Rattle.queue.specs.Promises.{EveryQueueIsItsList, SoundStaysSound, EverySoundMeans, EveryMadeIsEmpty, RefusalsChangeNothing, EveryLookMeans, RoomMeans, EveryPeekMeans, EveryPopMeans, EveryLookAnswers, EveryNewAnswers, EdgesHold}
 use Rattle.queue.proofs.Edges as edges
 use Rattle.queue.proofs.AnswerLaws as answers
 use Rattle.queue.proofs.EveryLaws as every
@@ -19,6 +19,12 @@ every-made-is-empty = record { done = λ Q A k w. every.new-empty k w; refused =
 
 pub refusals-change-nothing : RefusalsChangeNothing
 refusals-change-nothing Q A k q = every.refusals-keep k q
+
+pub every-look-means : EveryLookMeans
+every-look-means Q A k w q g = every.looks-mean k w q g
+
+pub room-means : RoomMeans
+room-means = every.room-means
 
 pub every-peek-means : EveryPeekMeans
 every-peek-means Q A k w q left e g = every.peek-means k w q g left e

@@ -4,10 +4,11 @@ use Prim.Native.Nat.{ℕ, _+_, _≤_, _<_}
 use mathlib.Core.Path.{_≡_}
 use mathlib.Core.Bool.{true, false}
 use lib.ListN.{length, getD, set}
+use Rattle.defs.specs.Look.{FlagLeft, LenLeft}
 use Rattle.defs.specs.Promises.{Exactly}
 use Rattle.queue.specs.Queue.{Kind, soundQ, items}
 use Rattle.queue.specs.Queued.{QueuedLeft}
-use Rattle.queue.specs.Look.{PeekLeft}
+use Rattle.queue.specs.Look.{PeekLeft, SyncedSays, EmptySays, FullSays, LengthSays}
 use Rattle.queue.specs.Pop.{PopLeft}
 
 module _ {Q A : Type 0} (k : Kind Q A) where
@@ -58,6 +59,14 @@ module _ {Q A : Type 0} (k : Kind Q A) where
   Unsyncs q left =
       (left .answer .number ≡ 11)
       × (left .queue ≡ k .made (record { places = k .seen q .places; len = k .seen q .len; limit = k .seen q .limit; synced = false }))
+
+  -- ---- the looks: sync as it stands, the number of items, and whether that is 0 or the limit
+
+  pub record LooksMean (q : Q) : Type 0 where
+    pub synced : (o : FlagLeft) → SyncedSays k q o → o .answer .number ≡ 0 → o .holds ≡ k .seen q .synced
+    pub empty : (o : FlagLeft) → EmptySays k q o → o .answer .number ≡ 0 → Exactly (o .holds ≡ true) (k .seen q .len ≡ 0)
+    pub full : (o : FlagLeft) → FullSays k q o → o .answer .number ≡ 0 → Exactly (o .holds ≡ true) (k .seen q .len ≡ k .seen q .limit)
+    pub len : (o : LenLeft) → LengthSays k q o → o .answer .number ≡ 0 → o .len ≡ k .seen q .len
 
   -- ---- a peek and a pop
 

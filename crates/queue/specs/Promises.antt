@@ -1,5 +1,5 @@
 -- What this crate promises, in statements only; proofs/Promises has a line for each. Assumes nothing.
-use Prim.Native.Nat.{ℕ, _≤_}
+use Prim.Native.Nat.{ℕ, _≤_, _<_}
 use mathlib.Core.Path.{_≡_}
 use mathlib.Core.Bool.{Bool, true, false}
 use mathlib.Core.List.{List}
@@ -10,10 +10,10 @@ use Rattle.defs.specs.Reading.{Hold}
 use Rattle.defs.specs.declared.answer.Answer.{Answer}
 use Rattle.defs.specs.declared.answer.Answer.the-variants.{Done}
 use Rattle.queue.specs.Queue.{Kind, Lawful, soundQ, items, pack, holding}
-use Rattle.queue.specs.Queued.{QueuedLeft, ListLeft, madeOf, newOf, pushOf}
+use Rattle.queue.specs.Queued.{QueuedLeft, hasRoom, ListLeft, madeOf, newOf, pushOf}
 use Rattle.queue.specs.Look.{PeekLeft, peekOf}
 use Rattle.queue.specs.Pop.{PopLeft, popOf}
-use Rattle.queue.specs.Means.{Sound, SoundMeans, Given, EmptyOf, PeekMeans, PopMeans}
+use Rattle.queue.specs.Means.{Sound, SoundMeans, Given, EmptyOf, LooksMean, PeekMeans, PopMeans}
 use Rattle.queue.specs.Answers.{LookAnswers, NewAnswers}
 use Rattle.queue.specs.Edges.{sounds, packs, pops, rooms}
 
@@ -55,6 +55,14 @@ pub record RefusalKeeps {Q A : Type 0} (k : Kind Q A) (q : Q) : Type 1 where
 
 abbrev pub RefusalsChangeNothing : Type 1
 RefusalsChangeNothing = (Q A : Type 0) (k : Kind Q A) (q : Q) → RefusalKeeps k q
+
+-- a look tells what stands in the record
+abbrev pub EveryLookMeans : Type 1
+EveryLookMeans = (Q A : Type 0) (k : Kind Q A) → Lawful k → (q : Q) → Given k q → LooksMean k q
+
+-- room is for one more: synced and not full
+abbrev pub RoomMeans : Type 0
+RoomMeans = (synced : Bool) (len limit : ℕ) → Exactly (hasRoom synced len limit ≡ true) ((synced ≡ true) × (len < limit))
 
 -- a peek looks at the front
 abbrev pub EveryPeekMeans : Type 1

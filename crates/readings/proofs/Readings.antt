@@ -15,11 +15,15 @@ use Rattle.txbuf.proofs.Promises.{edges-hold as txbuf-edges}
 use Rattle.rules.proofs.Promises.{edges-hold as connection-edges}
 use Rattle.muxer_killq.proofs.Promises.{edges-hold as killq-edges}
 use Rattle.muxer_rxq.proofs.Promises.{edges-hold as rxq-edges}
-use Rattle.readings.specs.Readings.{Lettered, lettered, joined, readings, NoneLeftOut, ReadingsHold}
+use Rattle.readings.specs.Readings.{Lettered, lettered, joined, readings, EachLetter, NoneLeftOut, ReadingsHold}
+
+each-letter : EachLetter
+unfolding lettered bytesOfA ringBCD ruleE ringF formulaH readingA readingBCD readingE readingF readingG readingH readingI popI readingJ
+each-letter = refl
 
 pub none-left-out : NoneLeftOut
-unfolding lettered bytesOfA ringBCD ruleE ringF formulaH readingA readingBCD readingE readingF readingG readingH readingI popI readingJ
-none-left-out = refl
+unfolding lettered
+none-left-out = record { letters = each-letter; crates = refl }
 
 -- each part holds
 abbrev Each : List Lettered → Type 0

@@ -3,7 +3,7 @@
 use Prim.Native.Nat.{ℕ}
 use Prim.Native.String.{String}
 use mathlib.Core.Path.{_≡_}
-use mathlib.Core.List.{List, [], _∷_, _++_}
+use mathlib.Core.List.{List, [], _∷_, _++_, map}
 use lib.ListN.{length}
 use Rattle.defs.specs.Reading.{Reading, Hold}
 use Rattle.defs.specs.Edges.{readingE as ruleE, readingH as formulaH}
@@ -41,13 +41,18 @@ abbrev pub counted : List Lettered → List (String × ℕ)
 counted [] = []
 counted (l ∷ ls) = (l .letters, length (l .list)) ∷ counted ls
 
--- none is left out, and none stands for another
-abbrev pub NoneLeftOut : Type 0
-NoneLeftOut =
+abbrev pub EachLetter : Type 0
+EachLetter =
     counted lettered
     ≡ ("a", 2) ∷ ("bcd", 3) ∷ ("e", 3) ∷ ("f", 4) ∷ ("h", 1)
     ∷ ("a", 2) ∷ ("bcd", 7) ∷ ("e", 3) ∷ ("f", 6) ∷ ("g", 2) ∷ ("h", 1) ∷ ("i", 2)
     ∷ ("i", 2) ∷ ("j", 5) ∷ []
+
+-- none is left out, and none stands for another: the letters with their numbers, and the readings of each crate in turn
+pub record NoneLeftOut : Type 1 where
+  pub letters : EachLetter
+  pub crates : map (λ (l : Lettered). l .list) lettered
+      ≡ bytesOfA ∷ ringBCD ∷ ruleE ∷ ringF ∷ formulaH ∷ readingA ∷ readingBCD ∷ readingE ∷ readingF ∷ readingG ∷ readingH ∷ readingI ∷ popI ∷ readingJ ∷ []
 
 -- every starred reading is what the specifications say
 abbrev pub ReadingsHold : Type 0

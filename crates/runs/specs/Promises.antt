@@ -1,8 +1,8 @@
 -- What holds of the runs of any machine, in statements only; proofs/Promises has a line for each. Assumes nothing.
 use Prim.Native.Nat.{ℕ, _-_, _≤_}
 use mathlib.Core.Path.{_≡_}
-use mathlib.Core.Bool.{Bool, true}
-use mathlib.Core.List.{List, [], _++_}
+use mathlib.Core.Bool.{Bool, true, false}
+use mathlib.Core.List.{List, [], _∷_, _++_}
 use lib.ListN.{length}
 use Rattle.defs.specs.Wrapping.{wadd}
 use Rattle.runs.specs.Runs.{Machine, Steps, gathered, outs, Each, Account, Forwards, Alike}
@@ -56,3 +56,9 @@ abbrev pub Drains : Type 1
 Drains =
     (m : Machine) (P : m .Record → Type 0) (backlog : m .Record → ℕ) (Pushless : m .Event → Type 0) (isOut : m .Event → Bool) → Keeps m P → Wanes m P backlog Pushless isOut
     → (c d : m .Record) (x y : m .Lent) (t : List (m .Event)) → P c → Steps m c x t d y → Each Pushless t → backlog c ≤ outs isOut t → backlog d ≡ 0
+
+-- computed: of four calls, the newest first, those that pass a test, what they come to, oldest first, and that each of them is such a one
+pub record EdgesHold : Type 0 where
+  pub outs : outs (λ (b : Bool). b) (true ∷ false ∷ true ∷ true ∷ []) ≡ 3
+  pub gathered : gathered (λ (l : List ℕ). l) ((3 ∷ 4 ∷ []) ∷ [] ∷ (1 ∷ 2 ∷ []) ∷ []) ≡ 1 ∷ 2 ∷ 3 ∷ 4 ∷ []
+  pub each : Each (λ (n : ℕ). n ≤ 2) (2 ∷ 1 ∷ [])

@@ -1,2 +1,3 @@
 pub mod HexLaws
+pub mod Promises
 pub mod Pinned

@@ -12,17 +12,17 @@ use Rattle.defs.specs.Choice.{when}
 use Rattle.defs.specs.Answer.{Told, isDone, whenDone}
 use Rattle.defs.specs.Ladder.{doorOf, lateOf, lowestOf, recordAnswer}
 use Rattle.defs.specs.Limits.{isRingSize}
-use Rattle.defs.specs.Look.{LenLeft, lenOf, FlagLeft, flagOf}
 use Rattle.defs.specs.Stream.{counted}
 use Rattle.defs.specs.declared.answer.Answer.{Answer}
 use Rattle.defs.specs.declared.answer.Answer.the-variants.{Done}
 use Rattle.defs.specs.declared.stream.StreamAnswers.{StreamAnswers}
+use Rattle.defs.proofs.LookLaws.{flag-done, len-done}
 use Rattle.defs.proofs.Basics.{neither, and-false}
 use Rattle.defs.proofs.AnswerLaws.{number-zero, when-done}
 use Rattle.defs.proofs.LadderLaws.{record-passed}
 use Rattle.defs.proofs.LimitLaws.{ring-sizes}
 use Rattle.defs.proofs.MeansLaws.{equal-means}
-use Rattle.txbuf.specs.Record.{Wide, usedOf, soundOf, held, NewLeft, newOf, lookAnswer}
+use Rattle.txbuf.specs.Record.{isEmpty, Wide, usedOf, soundOf, held, NewLeft, newOf, lookAnswer}
 use Rattle.txbuf.specs.Push.{written, PushIn, PushLeft, pushAnswerOf, pushDone, pushOf, NumberedLeft, numbered}
 use Rattle.txbuf.specs.Flush.{FlushIn, FlushLeft, endsBy, flushAnswer, flushCount, flushOver, flushDone, flushKept, flushOf}
 use Rattle.txbuf.specs.Means.{bytesHeld, Sound, SoundOver, firstLength, secondLength, usesFirst, usesSecond, countedNow}
@@ -233,12 +233,8 @@ unreached-is-ignored = record {
 -- ---- len and is_empty
 
 pub looks-mean : LooksMean
-unfolding lenOf flagOf
 looks-mean = record {
   used = λ b. refl;
-  len = λ b o says n.
-      ap (λ (x : LenLeft). x .len) says ∙ when-done (lookAnswer b) _ _ (number-zero (lookAnswer b) (ap (λ (x : LenLeft). x .answer .number) (sym says) ∙ n));
-  is-empty = λ b o says n.
-      let e = ap (λ (x : FlagLeft). x .holds) says ∙ when-done (lookAnswer b) _ _ (number-zero (lookAnswer b) (ap (λ (x : FlagLeft). x .answer .number) (sym says) ∙ n)) in
-      rw e (equal-means (usedOf b) 0);
+  len = λ b o says n. len-done (lookAnswer b) (usedOf b) o says n;
+  is-empty = λ b o says n. rw (flag-done (lookAnswer b) (isEmpty b) o says n) (equal-means (usedOf b) 0);
 }
