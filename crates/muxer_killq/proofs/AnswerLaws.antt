@@ -36,7 +36,7 @@ pub push-answers : PushAnswers
 unfolding pushList
 push-answers i =
     let q = i .queue in
-    answers.push-answers killq Sound sound-means (pushList (itemAt (i .key) (i .«kill_time»))) q _ (Room killq q → ⊥) (not-means (answers.room-means killq q))
+    answers.push-answers killq Sound sound-means (pushList (itemAt (i .key) (i .«kill_time»))) q _ (Room killq q → ⊥) (not-means (answers.room-of killq q))
     (by-room (hasRoom (q .synced) (length (items q)) (q .limit)) _ _ refl refl)
 
 pub build-answers : BuildAnswers

@@ -122,7 +122,7 @@ every-push-means i o e g =
     let q = i .queue in
     let it = itemAt (i .key) (i .«kill_time») in
     record {
-      room = λ r. every.push-appends killq lawful q g (pushList it) o e it r (when-true _ _ _ (answers.room-means killq q .1 r));
+      room = λ r. every.push-appends killq lawful q g (pushList it) o e it r (when-true _ _ _ (answers.room-of killq q .1 r));
       no-room = λ n. every.push-unsyncs killq lawful q g (pushList it) o e (when-false _ _ _ (answers.no-room killq q n));
     }
 

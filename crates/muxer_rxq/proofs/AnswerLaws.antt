@@ -41,7 +41,7 @@ turned-down-means : (i : PushIn)
     → Exactly (not (hasRoom (i .queue .synced) (length (items (i .queue))) (i .queue .limit)) && (not (i .rx .rst) || eqb (lastConn (items (i .queue))) 0) ≡ true) (TurnedDown i)
 turned-down-means i =
     let l = items (i .queue) in
-    and-means (not-means (answers.room-means rxq (i .queue))) (or-means (not-as-is (i .rx .rst)) (in-words (equal-means (lastConn l) 0) (every-last-conn-means l .none)))
+    and-means (not-means (answers.room-of rxq (i .queue))) (or-means (not-as-is (i .rx .rst)) (in-words (equal-means (lastConn l) 0) (every-last-conn-means l .none)))
 
 pub push-answers : PushAnswers
 unfolding pushList evictList

@@ -179,7 +179,7 @@ every-push-means i o e g =
     let l = items q in
     let means = every-last-conn-means l in
     record {
-      room = λ r. every.push-appends rxq lawful q g (pushList (i .rx)) o e (i .rx) r (when-true _ _ _ (answers.room-means rxq q .1 r));
+      room = λ r. every.push-appends rxq lawful q g (pushList (i .rx)) o e (i .rx) r (when-true _ _ _ (answers.room-of rxq q .1 r));
       rst =
           λ n r m t.
           let c : lastConn l ≡ m + 1 = means .some m .1 t in

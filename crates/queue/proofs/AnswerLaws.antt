@@ -21,6 +21,7 @@ use Rattle.queue.specs.Queued.{QueuedLeft, ListLeft, hasRoom, madeOf, ne
 use Rattle.queue.specs.Look.{PeekLeft, peekList, peekOf}
 use Rattle.queue.specs.Pop.{PopLeft, popList, popOf}
 use Rattle.queue.specs.Means.{SoundMeans, Room}
+use Rattle.queue.specs.Promises.{RoomMeans}
 use Rattle.queue.specs.Answers.{pushRows, LookAnswers, NewAnswers}
 
 -- ---- a push: 1 where the queue isn't sound, 11 where it is turned down
@@ -32,13 +33,16 @@ number false down left q e = refl
 number true true left q e = e
 number true false left q e = e
 
+pub room-means : RoomMeans
+unfolding hasRoom
+room-means synced len limit = and-means (as-is synced) (below-means len limit)
+
 module _ {Q A : Type 0} (k : Kind Q A) where
-  pub room-means : (q : Q) → Exactly (hasRoom (k .seen q .synced) (length (items k q)) (k .seen q .limit) ≡ true) (Room k q)
-  unfolding hasRoom
-  room-means q = and-means (as-is (k .seen q .synced)) (below-means (length (items k q)) (k .seen q .limit))
+  pub room-of : (q : Q) → Exactly (hasRoom (k .seen q .synced) (length (items k q)) (k .seen q .limit) ≡ true) (Room k q)
+  room-of q = room-means (k .seen q .synced) (length (items k q)) (k .seen q .limit)
 
   pub no-room : (q : Q) → (Room k q → ⊥) → hasRoom (k .seen q .synced) (length (items k q)) (k .seen q .limit) ≡ false
-  no-room q n = not-true _ (not-means (room-means q) .1 n)
+  no-room q n = not-true _ (not-means (room-of q) .1 n)
 
   pub push-answers : (Sound : Q → Type 0) → SoundMeans k Sound → (push : List A → ℕ → Bool → ListLeft A) (q : Q) (down : Bool) (TurnedDown : Type 0) → Exactly (down ≡ true) TurnedDown
       → told (push (items k q) (k .seen q .limit) (k .seen q .synced) .answer) .number ≡ when down 11 0

@@ -18,12 +18,12 @@ use Rattle.defs.proofs.Basics.{both, never, true-or-false}
 use Rattle.defs.proofs.AnswerLaws.{is-done, done-passes, number-zero, when-done, when-not-done, left-kept}
 use Rattle.defs.proofs.ChoiceLaws.{when-holds}
 use Rattle.defs.proofs.LookLaws.{flag-done, len-done}
-use Rattle.defs.proofs.MeansLaws.{as-is, in-words, below-means, equal-means, and-means}
+use Rattle.defs.proofs.MeansLaws.{in-words, equal-means}
 use Rattle.queue.specs.Queue.{Queue, Kind, Lawful, all, padded, clearQ, soundQ, items, pack, holding, frontGone}
-use Rattle.queue.specs.Queued.{QueuedLeft, hasRoom, ListLeft, leaves, madeOf, newOf, laid, pushOf}
+use Rattle.queue.specs.Queued.{QueuedLeft, ListLeft, leaves, madeOf, newOf, laid, pushOf}
 use Rattle.queue.specs.Look.{PeekLeft, peekList, peekOf}
 use Rattle.queue.specs.Pop.{PopLeft, popList, popOf}
-use Rattle.queue.specs.Promises.{RoomMeans, RefusalKeeps}
+use Rattle.queue.specs.Promises.{RefusalKeeps}
 use Rattle.queue.specs.Means.{placeOf, Sound as SoundIn, SoundMeans, Given, EmptyOf, LooksMean, Room, Appends, Replaces, Unsyncs, PeekMeans, PopMeans}
 use Rattle.queue.proofs.QueueLaws.{Sound, parts, sound-says, packed, synced-anew, sound-packed, appended, replaced}
 
@@ -85,10 +85,6 @@ module _ {Q A : Type 0} (k : Kind Q A) where
         (each-all (k .isZero) (k .zeroItem) passes alone (drop (k .seen q .len) (k .seen q .places))
         (λ n. getD-drop (k .seen q .len) (k .seen q .places) n (k .zeroItem) ∙ p .3 (k .seen q .len + n) (omega arith))),
   )
-
-pub room-means : RoomMeans
-unfolding hasRoom
-room-means synced len limit = and-means (as-is synced) (below-means len limit)
 
 module _ {Q A : Type 0} (k : Kind Q A) (w : Lawful k) where
   empty-of : (limit : ℕ) (q : Q) → q ≡ pack k [] limit true → EmptyOf k limit q

@@ -24,7 +24,7 @@ pub every-look-means : EveryLookMeans
 every-look-means Q A k w q g = every.looks-mean k w q g
 
 pub room-means : RoomMeans
-room-means = every.room-means
+room-means = answers.room-means
 
 pub every-peek-means : EveryPeekMeans
 every-peek-means Q A k w q left e g = every.peek-means k w q g left e

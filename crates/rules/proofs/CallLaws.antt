@@ -19,6 +19,7 @@ use Rattle.defs.specs.declared.answer.Answer.{Answer}
 use Rattle.defs.specs.declared.answer.Answer.the-variants.{Done}
 use Rattle.defs.proofs.Basics.{never, both, true-or-false, positive, or-true, or-false}
 use Rattle.defs.proofs.AnswerLaws.{done-is-done, is-done, done-passes, when-done, when-not-done, when-refused, number-zero, answer-told, left-done, left-kept}
+use Rattle.defs.proofs.LookLaws.{flag-done}
 use Rattle.defs.proofs.ChoiceLaws.{when-true, when-false, when-holds}
 use Rattle.packet.specs.Header.{encoded, decoded}
 use Rattle.packet.proofs.HeaderLaws.{decoded-encoded}
@@ -387,18 +388,6 @@ none-of false false true rw update e = absurd (never (sym e))
 none-of false true rst rw update e = absurd (never (sym e))
 none-of true response rst rw update e = absurd (never (sym e))
 
-pub looks-tell : LooksTell
-unfolding flagOf stateOf expiryOf isPending
-looks-tell = record {
-  pending = λ c o says n.
-      let z : o .holds ≡ isPending (c .«pending_rx») =
-      ap (λ (x : FlagLeft). x .holds) says ∙ field-done (lookAnswer c) _ false (ap (λ (x : FlagLeft). x .answer .number) (sym says) ∙ n) in
-      let p = c .«pending_rx» in
-      (λ e. none-of (p .request) (p .response) (p .rst) (p .rw) (p .«credit_update») (sym z ∙ e), λ e. z ∙ ap isPending e);
-  state = λ c o says n. ap (λ (x : StateLeft). x .state) says ∙ field-done (lookAnswer c) _ _ (ap (λ (x : StateLeft). x .answer .number) (sym says) ∙ n);
-  expiry = λ c o says n. ap (λ (x : ExpiryLeft). x .expiry) says ∙ field-done (lookAnswer c) _ _ (ap (λ (x : ExpiryLeft). x .answer .number) (sym says) ∙ n);
-}
-
 pub refused-tells-nothing : RefusedTellsNothing
 unfolding expiryOf stateOf evSetOf
 refused-tells-nothing = record {
@@ -407,4 +396,15 @@ refused-tells-nothing = record {
   polled = λ c o says n.
       let r : told (lookAnswer c) .number ≡ 0 → ⊥ = λ z. n (ap (λ (x : EvSetLeft). x .answer .number) says ∙ z) in
       (ap (λ (x : EvSetLeft). x .readable) says ∙ when-refused (lookAnswer c) _ _ r, ap (λ (x : EvSetLeft). x .writable) says ∙ when-refused (lookAnswer c) _ _ r);
+}
+
+pub looks-tell : LooksTell
+unfolding stateOf expiryOf isPending
+looks-tell = record {
+  pending = λ c o says n.
+      let z = flag-done (lookAnswer c) (isPending (c .«pending_rx»)) o says n in
+      let p = c .«pending_rx» in
+      (λ e. none-of (p .request) (p .response) (p .rst) (p .rw) (p .«credit_update») (sym z ∙ e), λ e. z ∙ ap isPending e);
+  state = λ c o says n. ap (λ (x : StateLeft). x .state) says ∙ field-done (lookAnswer c) _ _ (ap (λ (x : StateLeft). x .answer .number) (sym says) ∙ n);
+  expiry = λ c o says n. ap (λ (x : ExpiryLeft). x .expiry) says ∙ field-done (lookAnswer c) _ _ (ap (λ (x : ExpiryLeft). x .answer .number) (sym says) ∙ n);
 }

@@ -28,11 +28,11 @@ use Rattle.defs.proofs.LimitLaws.{ring-sizes, packet-length, packet-over}
 use Rattle.defs.proofs.MeansLaws.{as-is, not-means, and-means, or-means, below-means}
 use Rattle.defs.proofs.LadderLaws.{firstInTurn, by-turn, row, exchange, ladder-then, lowest-end, stop-number, record-number, lowest-passed, door-passed, late-passed}
 use Rattle.txbuf.specs.Record.{usedOf, soundRecord, soundOf, NewLeft, newOf, lookAnswer}
-use Rattle.txbuf.specs.Push.{PushIn, PushLeft, pushAnswer, pushAnswerOf, pushDone, pushKept, pushOf, NumberedLeft}
+use Rattle.txbuf.specs.Push.{PushIn, PushLeft, pushAnswer, pushAnswerOf, pushDone, pushKept, pushOf, NumberedLeft, numbered}
 use Rattle.txbuf.specs.Flush.{pieceLen, takenBy, overBy, FlushIn, FlushLeft, endsBy, flushAnswer, flushCount, flushOver, flushDone, flushKept, flushOf}
 use Rattle.txbuf.specs.Means.{Sound, firstLength, secondLength, usesFirst, usesSecond, countedNow, CountsTooMuch}
 use Rattle.txbuf.specs.Answers.{pushRows, PushAnswers, NumberedAnswers, FlushAnswers, NewAnswers, LookAnswers}
-use Rattle.txbuf.specs.Outcomes.{RefusalsChangeNothing, NineAndTenChangeNothing}
+use Rattle.txbuf.specs.Outcomes.{RefusalsChangeNothing, NineAndTenChangeNothing, NumberedIsPush}
 use Rattle.txbuf.specs.declared.record.TxBuf.{TxBuf}
 use Rattle.txbuf.proofs.RecordLaws.{sound-means, Fit, sound-says, next-length}
 
@@ -281,9 +281,14 @@ flush-tells i o says n =
     let e = ap (λ (x : FlushLeft). x .answer) says ∙ flush-told i in
     ap (λ (t : Told). t .failed) e ∙ ten-tells _ _ _ _ (i .answers .first) (sym (ap (λ (t : Told). t .number) e) ∙ n)
 
+pub numbered-is-push : NumberedIsPush
+numbered-is-push i o p says said =
+    let e = says ∙ ap numbered (sym said) in
+    (ap (λ (x : NumberedLeft). x .number) e, ap (λ (x : NumberedLeft). x .store) e)
+
 pub nine-and-ten-change-nothing : NineAndTenChangeNothing
 nine-and-ten-change-nothing = record {
   push = λ i o says n. push-keeps i o says (λ z. omega arith);
-  numbered = λ i o says n. ap (λ (x : NumberedLeft). x .store) says ∙ push-keeps i (pushOf i) refl (λ z. n (ap (λ (x : NumberedLeft). x .number) says ∙ z)) .1;
+  numbered = λ i o says n. let k = numbered-is-push i o (pushOf i) says refl in k .1 ∙ push-keeps i (pushOf i) refl (λ z. n (k .0 ∙ z)) .1;
   flush = λ i o says n. let k = flush-keeps i o says (λ z. omega arith) in (k .0, k .1, k .2, flush-tells i o says n);
 }

@@ -23,10 +23,10 @@ use Rattle.defs.proofs.LadderLaws.{record-passed}
 use Rattle.defs.proofs.LimitLaws.{ring-sizes}
 use Rattle.defs.proofs.MeansLaws.{equal-means}
 use Rattle.txbuf.specs.Record.{isEmpty, Wide, usedOf, soundOf, held, NewLeft, newOf, lookAnswer}
-use Rattle.txbuf.specs.Push.{written, PushIn, PushLeft, pushAnswerOf, pushDone, pushOf, NumberedLeft, numbered}
+use Rattle.txbuf.specs.Push.{written, PushIn, PushLeft, pushAnswerOf, pushDone, pushOf}
 use Rattle.txbuf.specs.Flush.{FlushIn, FlushLeft, endsBy, flushAnswer, flushCount, flushOver, flushDone, flushKept, flushOf}
 use Rattle.txbuf.specs.Means.{bytesHeld, Sound, SoundOver, firstLength, secondLength, usesFirst, usesSecond, countedNow}
-use Rattle.txbuf.specs.Outcomes.{SoundStaysSound, NewIsEmpty, EveryPushMeans, NumberedIsPush, FlushMeans, EveryFlushMeans, withAnswers, UnreachedIsIgnored, LooksMean}
+use Rattle.txbuf.specs.Outcomes.{SoundStaysSound, NewIsEmpty, EveryPushMeans, FlushMeans, EveryFlushMeans, withAnswers, UnreachedIsIgnored, LooksMean}
 use Rattle.txbuf.specs.declared.record.TxBuf.{TxBuf}
 use Rattle.txbuf.proofs.RecordLaws.{sound-means, is-sound, held-length, used-after, used-advanced}
 use Rattle.txbuf.proofs.AnswerLaws.{push-told, Ready, ready, tooMuch, count-is, over-is, flush-told, sound-done, not-over, room-left}
@@ -164,11 +164,6 @@ new-is size o says n =
 
 pub new-is-empty : NewIsEmpty
 new-is-empty size o says n = let e = new-is size o says n .1 in (ap (λ (b : TxBuf). b .size) e, ap (λ (b : TxBuf). b .head) e, ap (λ (b : TxBuf). b .tail) e)
-
-pub numbered-is-push : NumberedIsPush
-numbered-is-push i o p says said =
-    let e = says ∙ ap numbered (sym said) in
-    (ap (λ (x : NumberedLeft). x .number) e, ap (λ (x : NumberedLeft). x .store) e)
 
 pub sound-stays-sound : SoundStaysSound
 sound-stays-sound = record {

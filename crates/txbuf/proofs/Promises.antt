@@ -78,7 +78,7 @@ pub every-push-means : EveryPushMeans
 every-push-means = done.every-push-means
 
 pub numbered-is-push : NumberedIsPush
-numbered-is-push = done.numbered-is-push
+numbered-is-push = answers.numbered-is-push
 
 pub every-flush-means : EveryFlushMeans
 every-flush-means = done.every-flush-means
