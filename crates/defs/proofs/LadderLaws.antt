@@ -208,3 +208,17 @@ late-passed false false e = record { answer-ok = refl; room-ok = refl }
 pub record-passed : (a : Answer) (sound : Bool) → a ≡ recordAnswer sound → a ≡ Done → sound ≡ true
 unfolding recordAnswer
 record-passed a sound e d = not-false sound (door-passed _ _ _ _ (sym e ∙ d) .record-ok)
+
+-- and one that is not sound is refused
+pub record-refused : (sound : Bool) → sound ≡ false → isDone (recordAnswer sound) ≡ false
+unfolding recordAnswer doorOf when isDone
+record-refused sound e = rw e
+
+-- behind a door that refuses, two rungs decide nothing
+pub behind-two : (door p q : Answer) → isDone door ≡ false → lowestOf (lowestOf door p) q ≡ door
+behind-two door p q n = rw (lowest-refused door p n) (lowest-refused door q n)
+
+-- and what two calls leave that answer as it does goes by that answer alone
+pub left-alike : {A : Type 0} (door a b : Answer) (x y : A) (kept : Answer → A) → isDone door ≡ false → a ≡ door → b ≡ door
+    → whenDone a x (kept a) ≡ whenDone b y (kept b)
+left-alike door a b x y kept n e f = rw (e, f) (when-not-done door x (kept door) n ∙ sym (when-not-done door y (kept door) n))

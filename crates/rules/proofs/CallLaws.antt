@@ -43,7 +43,7 @@ use Rattle.rules.specs.Raw.{RawLeft, rawAnswer, rawDone, rawKept, rawOf}
 use Rattle.rules.specs.Receive.{RecvIn, RecvLeft, spokenOf, receivedOf, headerOf, recvDoor, recvRefusal, refusalOf, nextStep, recvDone, recvKept, recvOf}
 use Rattle.rules.specs.Send.{heardOf, movedOf, updatedOf, onResponse, onShutdown, onCreditRequest, onData, ruleOf, goesOf, planOf, killsOf, SendIn, SendLeft, pktOf, sendPlan, sendAnswer, sendKills, sendCarried, sendDone, sendKept, sendOf, accepted}
 use Rattle.rules.specs.Notify.{NotifyIn, NotifyLeft, seenOf, settledOf, drainedOf, due, flushed, notifyAnswer, notifyDone, notifyKept, notifyOf}
-use Rattle.rules.specs.Outcomes.{TurnLeaves, HeaderTells, initialised, SevenAndEightLeave, turnOf, headerNow, connNow, EveryTurnLeaves, RefusalsChangeNothing, EverySendHears, meetsData, writesNow, takenNow, killsNow, acceptedNow, EverySendAccepts, fallsShort, UpdateIsDue, KillMeans, EveryKillKills, EveryPollPolls, ExpiryMeans, LooksTell, RefusedTellsNothing}
+use Rattle.rules.specs.Outcomes.{TurnLeaves, HeaderFits, HeaderTells, initialised, SevenAndEightLeave, turnOf, headerNow, connNow, EveryTurnLeaves, RefusalsChangeNothing, EverySendHears, meetsData, writesNow, takenNow, killsNow, acceptedNow, EverySendAccepts, fallsShort, UpdateIsDue, KillMeans, EveryKillKills, EveryPollPolls, ExpiryMeans, LooksTell, RefusedTellsNothing}
 use Rattle.rules.specs.declared.record.VsockConnection.{VsockConnection}
 use Rattle.rules.specs.declared.plan.SendPlan.{SendPlan}
 
@@ -120,6 +120,9 @@ pub every-send-hears : EverySendHears
 every-send-hears i o says = record {
   alloc = λ n. ap (λ (x : SendLeft). x .conn .«peer_buf_alloc») (done-left i o says n) ∙ ap (λ (p : Peer). p .alloc) (done-peer i);
   fwd = λ n. ap (λ (x : SendLeft). x .conn .«peer_fwd_cnt») (done-left i o says n) ∙ ap (λ (p : Peer). p .fwd) (done-peer i);
+  refused = λ r.
+      let e = refusals-change-nothing .send i o says r .0 in
+      (ap (λ (c : VsockConnection). c .«peer_buf_alloc») e, ap (λ (c : VsockConnection). c .«peer_fwd_cnt») e);
 }
 
 -- the plan by what the packet meets
@@ -279,6 +282,33 @@ turn-done : (i : RecvIn) (o : RecvLeft) → o ≡ recvOf i → (Refuses (o .answ
 unfolding recvOf
 turn-done i o says k = says ∙ when-done (refusalOf i) _ _ (not-refused i o says k)
 
+header-said : (i : RecvIn) (o : RecvLeft) → o ≡ recvOf i → (Refuses (o .answer) → ⊥) → HeaderFits i → decoded (o .hdr) ≡ headerNow (i .conn) (saidNow (turnOf i))
+unfolding recvDone headerOf creditOf
+header-said i o says k f =
+    ap decoded (ap (λ (x : RecvLeft). x .hdr) (turn-done i o says k) ∙ ap (λ (x : Said). encoded (headerNow (i .conn) x)) (says-first-pending (turnOf i)))
+    ∙ decoded-encoded _ f
+
+-- the answer of a turn that isn't refused is its row's
+turn-number : (i : RecvIn) (o : RecvLeft) → o ≡ recvOf i → 7 ≤ o .answer .number → o .answer .number ≡ numberOf (turnOf i)
+unfolding recvDone creditOf
+turn-number i o says l = ap (λ (x : RecvLeft). x .answer .number) (turn-done i o says (λ r. omega (arith, r .1)))
+
+-- a turn answered 7 or 8 says nothing
+says-nothing : (i : RecvIn) (o : RecvLeft) → o ≡ recvOf i → 7 ≤ o .answer .number → (saidNow (turnOf i) .op ≡ 0) × (saidNow (turnOf i) .len ≡ 0) × (saidNow (turnOf i) .flags ≡ 0)
+says-nothing i o says l =
+    let b = seven-and-eight (turnOf i) .blank (λ z. let n = turn-number i o says l in omega arith) in
+    let m = sym (says-first-pending (turnOf i)) in
+    (ap (λ (x : Said). x .op) m ∙ b .0, ap (λ (x : Said). x .len) m ∙ b .1, ap (λ (x : Said). x .flags) m ∙ b .2)
+
+pub header-tells : HeaderTells
+header-tells = record {
+  said = header-said;
+  blank = λ i o says l f.
+      let e = header-said i o says (λ r. omega (arith, r .1)) f in
+      let n = says-nothing i o says l in
+      (ap (λ (h : VsockPacketHdr). h .op) e ∙ n .0, ap (λ (h : VsockPacketHdr). h .len) e ∙ n .1);
+}
+
 pub every-turn-leaves : EveryTurnLeaves
 unfolding recvDone receivedOf spokenOf headerOf creditOf
 every-turn-leaves i o says k =
@@ -289,14 +319,6 @@ every-turn-leaves i o says k =
       hdr = ap (λ (x : RecvLeft). x .hdr) z ∙ ap (λ (x : Said). encoded (headerNow (i .conn) x)) m;
       buf = ap (λ (x : RecvLeft). x .buf) z ∙ ap (λ (x : Said). take (x .len) (i .read) ++ drop (x .len) (i .buf)) m;
     }
-
-pub header-tells : HeaderTells
-header-tells i o says k f = ap decoded (every-turn-leaves i o says k .hdr) ∙ decoded-encoded _ f
-
--- the answer of a turn that isn't refused is its row's
-turn-number : (i : RecvIn) (o : RecvLeft) → o ≡ recvOf i → 7 ≤ o .answer .number → o .answer .number ≡ numberOf (turnOf i)
-unfolding recvDone creditOf
-turn-number i o says l = ap (λ (x : RecvLeft). x .answer .number) (turn-done i o says (λ r. omega (arith, r .1)))
 
 blank-header : (c : VsockConnection) (s : Said) → s .op ≡ 0 → s .len ≡ 0 → s .flags ≡ 0 → encoded (headerNow c s) ≡ encoded (initialised c s)
 blank-header c s p q r = rw (p, q, r)
@@ -314,11 +336,8 @@ module _ (i : RecvIn) (o : RecvLeft) (says : o ≡ recvOf i) (l : 7 ≤ o .answe
 
   header-left : o .hdr ≡ encoded (initialised (i .conn) (saidNow (turnOf i)))
   header-left =
-      let b = seven-and-eight (turnOf i) .blank (λ z. let n = turn-number i o says l in omega arith) in
-      let p : saidNow (turnOf i) .op ≡ 0 = ap (λ (x : Said). x .op) same-said ∙ b .0 in
-      let q : saidNow (turnOf i) .len ≡ 0 = ap (λ (x : Said). x .len) same-said ∙ b .1 in
-      let r : saidNow (turnOf i) .flags ≡ 0 = ap (λ (x : Said). x .flags) same-said ∙ b .2 in
-      left .hdr ∙ blank-header (i .conn) (saidNow (turnOf i)) p q r
+      let n = says-nothing i o says l in
+      left .hdr ∙ blank-header (i .conn) (saidNow (turnOf i)) (n .0) (n .1) (n .2)
 
 pub seven-and-eight-leave : SevenAndEightLeave
 seven-and-eight-leave i o says = record {

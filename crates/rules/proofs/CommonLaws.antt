@@ -3,11 +3,11 @@ use Prim.Native.Nat.{ℕ, _+_, _-_, _≤_}
 use mathlib.Core.Path.{_≡_, refl, sym, ap, subst, _∙_}
 use mathlib.Core.Logic.{⊎-elim}
 use mathlib.Core.Bool.{Bool, true, false, _&&_}
-use mathlib.Core.List.{List, []}
+use mathlib.Core.List.{List, [], _++_}
 use native.Mathlib.Omega.{arith}
 use lib.Dec.{leb, eqb}
-use lib.ListN.{length, take}
-use borrow.Author.Tests.{ltb-false, eqb-true, not-true}
+use lib.ListN.{length, take, drop}
+use borrow.Author.Tests.{ltb-false, eqb-true, ne-eqb, not-true}
 use Rattle.defs.specs.Answer.{Told, told, isDone, whenDone}
 use Rattle.defs.specs.Choice.{when}
 use Rattle.defs.specs.Stream.{failed, readCounted}
@@ -19,9 +19,9 @@ use Rattle.defs.specs.declared.stream.StreamAnswers.{StreamAnswers}
 use Rattle.defs.specs.declared.stream.ReadAnswer.{ReadAnswer}
 use Rattle.defs.proofs.Basics.{true-or-false, both, neither}
 use Rattle.defs.proofs.AnswerLaws.{number-zero, is-done, when-not-done}
-use Rattle.defs.proofs.LadderLaws.{record-passed}
+use Rattle.defs.proofs.LadderLaws.{record-passed, lowest-refused, behind-two, left-alike}
 use Rattle.defs.specs.Promises.{Exactly}
-use Rattle.defs.proofs.MeansLaws.{same-means, and-means, equal-means}
+use Rattle.defs.proofs.MeansLaws.{not-held, same-means, and-means, equal-means}
 use Rattle.defs.proofs.ChoiceLaws.{when-true, when-false, when-holds}
 use Rattle.defs.proofs.Promises.{told-tells-apart, credit-is-free-space}
 use Rattle.packet.specs.Header.{decoded}
@@ -42,29 +42,25 @@ use Rattle.csm.specs.declared.state.ConnState.{ConnState}
 use Rattle.csm.proofs.Promises.{says-what-was-read, says-first-pending}
 use Rattle.csm.proofs.FirstLaws.{reads-means, step-unread}
 use Rattle.rules.specs.Record.{quiet, creditOf}
-use Rattle.rules.specs.Raw.{rawAnswer, rawDone, rawKept, rawOf}
-use Rattle.rules.specs.Receive.{RecvIn, nextStep, readsOf, askedOf, recvRefusal, saidBy, recvDone, recvKept, recvOf}
-use Rattle.rules.specs.Send.{SendIn, SendLeft, planOf, writesOf, pktOf, sendAnswer, sendDone, sendKept, sendOf, accepted}
+use Rattle.rules.specs.Raw.{rawDoor, rawAnswer, rawDone, rawKept, rawOf}
+use Rattle.rules.specs.Receive.{RecvIn, nextStep, readsOf, askedOf, recvDoor, recvRefusal, saidBy, recvDone, recvKept, recvOf}
+use Rattle.rules.specs.Send.{SendIn, SendLeft, planOf, writesOf, pktOf, sendDoorIn, sendAnswer, sendDone, sendKept, sendOf, accepted}
 use Rattle.rules.specs.Notify.{NotifyIn, NotifyLeft, notifyDoor, flushDue, due, flushIn, flushed, notifyAnswer, notifyDone, notifyKept, notifyOf}
 use Rattle.rules.specs.Outcomes.{meetsData, writesNow, takenNow, turnOf}
 use Rattle.rules.specs.Answers.{InRange, Sound, SoundOver, askedNow}
 use Rattle.rules.specs.Moves.{Account, account, Numbers, sendTaken, notifyTaken}
 use Rattle.rules.specs.Leaves.{sendTook, notifyTook, sendAccepted, dataStays, flushesNow, SendLeaves, NotifyLeaves}
 use Rattle.rules.specs.Offer.{AskedLeft, sendWrites, sendOffered, recvReads, recvAsked, notifyFlushes, notifyFirst, notifySecond, rawOffered}
-use Rattle.rules.specs.Common.{asSent, asRead, OffersMean, SoundStaysSound, sentWith, readWith, notifiedWith, withSecond, UnreachedIsIgnored, DataFitsPeer}
+use Rattle.rules.specs.Common.{asSent, asRead, OffersMean, SoundStaysSound, sentWith, readWith, notifiedWith, rawWith, withSecond, UnreachedIsIgnored, DataFitsPeer}
 use Rattle.rules.specs.Open.{Opening, ConnLeft, freshOf, openAnswer, peerInitOf, localInitOf}
 use Rattle.rules.specs.declared.record.Settings.{Settings}
 use Rattle.rules.specs.declared.record.VsockConnection.{VsockConnection}
 use Rattle.rules.proofs.AnswerLaws.{writes-means, due-means, notify-told}
-use Rattle.rules.proofs.CallLaws.{some, not-refused, send-number, plan-written, stays-out, met}
+use Rattle.rules.proofs.CallLaws.{some, not-refused, header-tells, every-turn-leaves, send-number, plan-written, stays-out, met}
 use Rattle.rules.proofs.ChangeLaws.{made-done, due-now, left, within, every-send-leaves, every-notify-leaves}
 use Rattle.rules.proofs.MovesLaws.{receive-keeps, kill-keeps}
 use Rattle.rules.proofs.RecordLaws.{settings-mean}
 use Rattle.rules.proofs.ReceiveLaws.{asked-at-most, passed}
-
--- a test whose fact is not so does not hold
-unheld : (b : Bool) {P : Type 0} → (b ≡ true → P) → (P → ⊥) → b ≡ false
-unheld b f g = ⊎-elim (λ (t : b ≡ true). absurd (g (f t))) (λ (e : b ≡ false). e) (true-or-false b)
 
 -- ---- a packet: without a write its plan is the same whatever the stream answers
 
@@ -111,13 +107,44 @@ read-alike i a bytes e =
     let z : rowOf (nextStep c (i .present) a) .count ≡ 0 = ap (λ (s : RxStep). rowOf s .count) (sym n) ∙ says-none i e in
     rw (e, n, z)
 
+-- ---- behind a door that refuses
+
+-- a door whose number isn't 0 refuses
+shut : (a : Answer) (t : Told) → t ≡ told a → (t .number ≡ 0 → ⊥) → isDone a ≡ false
+unfolding isDone
+shut a t e n = rw (← e) (ne-eqb (t .number) 0 n)
+
 pub unreached-is-ignored : UnreachedIsIgnored
-unfolding sendOf sendAnswer sendDone sendKept rawOf rawAnswer rawDone rawKept creditOf
+unfolding sendOf sendAnswer sendDone sendKept recvOf recvKept recvRefusal notifyOf notifyKept notifyAnswer rawOf rawAnswer rawDone rawKept creditOf
 unreached-is-ignored = record {
-  send = λ i a o other says said w. says ∙ send-alike i a (unheld _ (writes-means i .0) w) ∙ sym said;
+  send-door = λ i a t o other says said door n.
+      let d = shut (sendDoorIn i) t door n in
+      says
+      ∙ left-alike (sendDoorIn i) _ _ (sendDone i) (sendDone (sentWith i a)) (λ (x : Answer). record { answer = told x; conn = i .conn; store = i .store; out = i .out }) d
+      (lowest-refused _ _ d) (lowest-refused _ _ d)
+      ∙ sym said;
+  recv-door = λ i a bytes t o other says said door n.
+      let d = shut (recvDoor (i .conn) (length (i .hdr)) (i .present) (length (i .buf)) (i .clock)) t door n in
+      says
+      ∙ left-alike _ _ _ (recvDone i) (recvDone (readWith i a bytes)) (λ (x : Answer). record { answer = told x; conn = i .conn; hdr = i .hdr; buf = i .buf }) d
+      (lowest-refused _ _ d) (lowest-refused _ _ d)
+      ∙ sym said;
+  notify-door = λ i a t o other says said door n.
+      let d = shut (notifyDoor (i .conn) (length (i .store))) t door n in
+      says
+      ∙ left-alike _ _ _ (notifyDone i) (notifyDone (notifiedWith i a)) (λ (x : Answer). record { answer = told x; conn = i .conn; out = i .out }) d
+      (lowest-refused _ _ d) (lowest-refused _ _ d)
+      ∙ sym said;
+  raw-door = λ i a t o other says said door n.
+      let d = shut (rawDoor (i .conn) (length (i .buf))) t door n in
+      says
+      ∙ left-alike _ _ _ (rawDone i) (rawDone (rawWith i a)) (λ (x : Answer). record { answer = told x; count = 0; out = i .out }) d
+      (behind-two _ _ _ d) (behind-two _ _ _ d)
+      ∙ sym said;
+  send = λ i a o other says said w. says ∙ send-alike i a (not-held _ (writes-means i .0) w) ∙ sym said;
   send-second = λ i y o other says said. says ∙ sym said;
-  recv = λ i a bytes o other says said r. says ∙ read-alike i a bytes (unheld _ (reads-means (turnOf i) .0) r) ∙ sym said;
-  notify = λ i a o other says said w. says ∙ notify-alike i a (unheld _ (due-means i .0) w) ∙ sym said;
+  recv = λ i a bytes o other says said r. says ∙ read-alike i a bytes (not-held _ (reads-means (turnOf i) .0) r) ∙ sym said;
+  notify = λ i a o other says said w. says ∙ notify-alike i a (not-held _ (due-means i .0) w) ∙ sym said;
   notify-second = λ i y o other says said u. says ∙ second-alike i y u ∙ sym said;
   raw-second = λ i y o other says said. says ∙ sym said;
 }
@@ -126,15 +153,21 @@ unreached-is-ignored = record {
 
 pub data-fits-peer : DataFitsPeer
 unfolding creditOf
-data-fits-peer i o alloc sent fwd says k h l m ea es ef =
+data-fits-peer i o alloc sent fwd says k v h l m ea es ef =
     let d = not-refused i o says k in
     let p = passed i d in
-    let n : saidNow (turnOf i) .len ≡ saidBy i .count = ap (λ (s : Said). s .len) (sym (says-first-pending (turnOf i))) in
+    let s : saidNow (turnOf i) .len ≡ saidBy i .count = ap (λ (s : Said). s .len) (sym (says-first-pending (turnOf i))) in
+    let t : decoded (o .hdr) .len ≡ saidNow (turnOf i) .len = ap (λ (x : VsockPacketHdr). x .len) (header-tells .said i o says k v) in
     let a = asked-at-most i d in
     let credit : creditOf (i .conn) ≡ alloc - (sent - fwd) = rw (ea, es, ef) (credit-is-free-space alloc sent fwd h l m) in
     let w : when (readsOf (i .conn) (i .present)) (askedOf (i .conn) (length (i .buf))) 0 ≤ creditOf (i .conn) =
     when-holds (λ (x : ℕ). x ≤ creditOf (i .conn)) (readsOf (i .conn) (i .present)) _ _ (λ t. omega arith) (λ t. omega arith) in
-    record { free = omega arith; supplied = omega (arith, p .supplied); fits = omega (arith, p .in-buffer) }
+    record {
+      free = omega arith;
+      supplied = omega (arith, p .supplied);
+      fits = omega (arith, p .in-buffer);
+      filled = every-turn-leaves i o says k .buf ∙ ap (λ (n : ℕ). take n (i .read) ++ drop n (i .buf)) (sym t);
+    }
 
 -- ---- soundness
 

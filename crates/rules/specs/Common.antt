@@ -3,9 +3,9 @@
 use Prim.Native.Nat.{ℕ, _+_, _-_, _%_, _^_, _<_, _≤_}
 use mathlib.Core.Path.{_≡_}
 use mathlib.Core.Bool.{Bool, true, false, _&&_}
-use mathlib.Core.List.{List, []}
+use mathlib.Core.List.{List, [], _++_}
 use lib.Dec.{leb, eqb}
-use lib.ListN.{length, take}
+use lib.ListN.{length, take, drop}
 use Rattle.defs.specs.Choice.{when}
 use Rattle.defs.specs.Answer.{Told}
 use Rattle.defs.specs.Promises.{Exactly, Refuses}
@@ -19,7 +19,7 @@ use Rattle.packet.specs.Uapi.{opRequest, opShutdown}
 use Rattle.txbuf.specs.Record.{usedOf}
 use Rattle.txbuf.specs.Flush.{firstPiece, secondPiece}
 use Rattle.txbuf.specs.Means.{usesSecond}
-use Rattle.csm.specs.Said.{Reads, opDue, tellsNow, saidNow}
+use Rattle.csm.specs.Said.{Reads, opDue, tellsNow}
 use Rattle.csm.specs.declared.timer.Timer.the-variants.{At}
 use Rattle.rules.specs.Open.{Opening, ConnLeft, PeerInitSays, LocalInitSays}
 use Rattle.rules.specs.Look.{KillSays}
@@ -27,9 +27,9 @@ use Rattle.rules.specs.Receive.{RecvIn, RecvLeft, RecvSays}
 use Rattle.rules.specs.Send.{SendIn, SendLeft, SendSays}
 use Rattle.rules.specs.Notify.{NotifyIn, NotifyLeft, NotifySays}
 use Rattle.rules.specs.Raw.{RawIn, RawLeft, RawSays}
-use Rattle.rules.specs.Offer.{SendGiven, SendDoorSays, SendWritesSays, SendOfferedSays, RecvGiven, AskedLeft, RecvAskedSays, NotifyDoorSays, NotifyOfferedSays, NotifyNextSays, RawDoorSays, RawOfferedSays}
+use Rattle.rules.specs.Offer.{SendGiven, SendDoorSays, SendWritesSays, SendOfferedSays, RecvGiven, RecvDoorSays, AskedLeft, RecvAskedSays, NotifyDoorSays, NotifyOfferedSays, NotifyNextSays, RawDoorSays, RawOfferedSays}
 use Rattle.rules.specs.Moves.{Numbers}
-use Rattle.rules.specs.Outcomes.{turnOf}
+use Rattle.rules.specs.Outcomes.{turnOf, HeaderFits}
 use Rattle.rules.specs.Leaves.{timerNow}
 use Rattle.rules.specs.Answers.{Sound, SoundOver, Writes, askedNow, Flushes}
 use Rattle.rules.specs.declared.record.VsockConnection.{VsockConnection}
@@ -74,8 +74,23 @@ rawWith i a = record { conn = i .conn; buf = i .buf; answers = a; out = i .out }
 abbrev pub withSecond : StreamAnswers → StreamAnswer → StreamAnswers
 withSecond a y = record { first = a .first; second = y }
 
--- 01: an answer that isn't reached isn't looked at, whatever it counts and whatever bytes it brings
+-- what a call is given besides the stream's answers: its door goes by that
+abbrev pub sendGiven : SendIn → SendGiven
+sendGiven i = record { conn = i .conn; store = i .store; hdr = i .hdr; present = i .present; buf = i .buf; clock = i .clock }
+
+abbrev pub recvGiven : RecvIn → RecvGiven
+recvGiven i = record { conn = i .conn; hdr = i .hdr; present = i .present; buf = i .buf; clock = i .clock }
+
+-- 01: an answer that isn't reached isn't looked at, whatever it counts and whatever bytes it brings. Behind a door that refuses (1 to 4) none is reached
 pub record UnreachedIsIgnored : Type 0 where
+  pub send-door : (i : SendIn) (a : StreamAnswers) (t : Told) (o other : SendLeft) → SendSays i o → SendSays (sentWith i a) other
+      → SendDoorSays (sendGiven i) t → (t .number ≡ 0 → ⊥) → o ≡ other
+  pub recv-door : (i : RecvIn) (a : ReadAnswer) (bytes : List ℕ) (t : Told) (o other : RecvLeft) → RecvSays i o → RecvSays (readWith i a bytes) other
+      → RecvDoorSays (recvGiven i) t → (t .number ≡ 0 → ⊥) → o ≡ other
+  pub notify-door : (i : NotifyIn) (a : StreamAnswers) (t : Told) (o other : NotifyLeft) → NotifySays i o → NotifySays (notifiedWith i a) other
+      → NotifyDoorSays (i .conn) (i .store) t → (t .number ≡ 0 → ⊥) → o ≡ other
+  pub raw-door : (i : RawIn) (a : StreamAnswers) (t : Told) (o other : RawLeft) → RawSays i o → RawSays (rawWith i a) other
+      → RawDoorSays (i .conn) (i .buf) t → (t .number ≡ 0 → ⊥) → o ≡ other
   pub send : (i : SendIn) (a : StreamAnswers) (o other : SendLeft) → SendSays i o → SendSays (sentWith i a) other → (Writes i → ⊥) → o ≡ other
   pub send-second : (i : SendIn) (y : StreamAnswer) (o other : SendLeft) → SendSays i o → SendSays (sentWith i (withSecond (i .answers) y)) other → o ≡ other
   pub recv : (i : RecvIn) (a : ReadAnswer) (bytes : List ℕ) (o other : RecvLeft) → RecvSays i o → RecvSays (readWith i a bytes) other
@@ -98,17 +113,18 @@ pub record SoundStaysSound : Type 0 where
 
 -- ---- the sender's duty (virtio 1.2, 5.10.6.3)
 
--- what a turn says is no longer than the guest's free space, by true counts of which the record has the last 32 bits, as long as no more is outstanding
--- than the guest allocated; and its len is the number of bytes that filled the buffer: so many were supplied, and so many fit
-pub record FitsPeer (i : RecvIn) (alloc sent fwd : ℕ) : Type 0 where
-  pub free : saidNow (turnOf i) .len ≤ alloc - (sent - fwd)
-  pub supplied : saidNow (turnOf i) .len ≤ length (i .read)
-  pub fits : saidNow (turnOf i) .len ≤ length (i .buf)
+-- a packet that is handed out is no longer than the guest's free space, by true counts of which the record has the last 32 bits, as long as no more is
+-- outstanding than the guest allocated; and its len is the number of bytes that filled the buffer: so many were supplied, so many fit, the rest stays
+pub record FitsPeer (i : RecvIn) (o : RecvLeft) (alloc sent fwd : ℕ) : Type 0 where
+  pub free : decoded (o .hdr) .len ≤ alloc - (sent - fwd)
+  pub supplied : decoded (o .hdr) .len ≤ length (i .read)
+  pub fits : decoded (o .hdr) .len ≤ length (i .buf)
+  pub filled : o .buf ≡ take (decoded (o .hdr) .len) (i .read) ++ drop (decoded (o .hdr) .len) (i .buf)
 
 abbrev pub DataFitsPeer : Type 0
 DataFitsPeer =
-    (i : RecvIn) (o : RecvLeft) (alloc sent fwd : ℕ) → RecvSays i o → (Refuses (o .answer) → ⊥) → alloc < 2 ^ 32 → fwd ≤ sent → sent - fwd ≤ alloc
-    → i .conn .«peer_buf_alloc» ≡ alloc → i .conn .«rx_cnt» ≡ sent % 2 ^ 32 → i .conn .«peer_fwd_cnt» ≡ fwd % 2 ^ 32 → FitsPeer i alloc sent fwd
+    (i : RecvIn) (o : RecvLeft) (alloc sent fwd : ℕ) → RecvSays i o → (Refuses (o .answer) → ⊥) → HeaderFits i → alloc < 2 ^ 32 → fwd ≤ sent → sent - fwd ≤ alloc
+    → i .conn .«peer_buf_alloc» ≡ alloc → i .conn .«rx_cnt» ≡ sent % 2 ^ 32 → i .conn .«peer_fwd_cnt» ≡ fwd % 2 ^ 32 → FitsPeer i o alloc sent fwd
 
 -- ---- what a call would offer or ask for, before the stream has answered: by the door's number, and by the words of the call itself
 

@@ -42,11 +42,11 @@ pub record RefusalsChangeNothing : Type 0 where
 
 -- ---- a packet
 
--- 01, `send_pkt`, "peer credit is always stored first": in any state and for any op the guest's numbers are then the header's. A refusal leaves the
--- old ones (`RefusalsChangeNothing`)
+-- 01, `send_pkt`, "peer credit is always stored first": in any state and for any op the guest's numbers are then the header's; refused, the old ones
 pub record HearsCredit (i : SendIn) (o : SendLeft) : Type 0 where
   pub alloc : o .answer .number ≡ 0 → o .conn .«peer_buf_alloc» ≡ decoded (i .hdr) .«buf_alloc»
   pub fwd : o .answer .number ≡ 0 → o .conn .«peer_fwd_cnt» ≡ decoded (i .hdr) .«fwd_cnt»
+  pub refused : Refuses (o .answer) → (o .conn .«peer_buf_alloc» ≡ i .conn .«peer_buf_alloc») × (o .conn .«peer_fwd_cnt» ≡ i .conn .«peer_fwd_cnt»)
 
 abbrev pub EverySendHears : Type 0
 EverySendHears = (i : SendIn) (o : SendLeft) → SendSays i o → HearsCredit i o
@@ -153,11 +153,14 @@ pub record TurnLeaves (i : RecvIn) (o : RecvLeft) : Type 0 where
 abbrev pub EveryTurnLeaves : Type 0
 EveryTurnLeaves = (i : RecvIn) (o : RecvLeft) → RecvSays i o → (Refuses (o .answer) → ⊥) → TurnLeaves i o
 
--- and the header decodes to just that, for fields that fit their widths, as those of every record that code holds do
-abbrev pub HeaderTells : Type 0
-HeaderTells =
-    (i : RecvIn) (o : RecvLeft) → RecvSays i o → (Refuses (o .answer) → ⊥) → Fit layout (fields (headerNow (i .conn) (saidNow (turnOf i))))
-    → decoded (o .hdr) ≡ headerNow (i .conn) (saidNow (turnOf i))
+-- the fields of that header fit their widths, as those of every record that code holds do
+abbrev pub HeaderFits : RecvIn → Type 0
+HeaderFits i = Fit layout (fields (headerNow (i .conn) (saidNow (turnOf i))))
+
+-- after answers 0, 7 and 8 the 44 bytes decode to just that; after 7 and 8 with op and len 0
+pub record HeaderTells : Type 0 where
+  pub said : (i : RecvIn) (o : RecvLeft) → RecvSays i o → (Refuses (o .answer) → ⊥) → HeaderFits i → decoded (o .hdr) ≡ headerNow (i .conn) (saidNow (turnOf i))
+  pub blank : (i : RecvIn) (o : RecvLeft) → RecvSays i o → 7 ≤ o .answer .number → HeaderFits i → (decoded (o .hdr) .op ≡ 0) × (decoded (o .hdr) .len ≡ 0)
 
 -- a header that says nothing: op, len and flags 0
 abbrev pub initialised : VsockConnection → Said → VsockPacketHdr

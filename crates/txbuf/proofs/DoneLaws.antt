@@ -9,7 +9,7 @@ use lib.ListN.{length, getD, take, drop, length-append, length-drop, List·getD-
 use lib.Seq.{getD-take, drop-at, length-take-le}
 use borrow.Author.Tests.{ltb-false, le-ltb}
 use Rattle.defs.specs.Choice.{when}
-use Rattle.defs.specs.Answer.{Told, isDone, whenDone}
+use Rattle.defs.specs.Answer.{Told, told, isDone, whenDone}
 use Rattle.defs.specs.Ladder.{doorOf, lateOf, lowestOf, recordAnswer}
 use Rattle.defs.specs.Limits.{isRingSize}
 use Rattle.defs.specs.Stream.{counted}
@@ -19,9 +19,9 @@ use Rattle.defs.specs.declared.stream.StreamAnswers.{StreamAnswers}
 use Rattle.defs.proofs.LookLaws.{flag-done, len-done}
 use Rattle.defs.proofs.Basics.{neither, and-false}
 use Rattle.defs.proofs.AnswerLaws.{number-zero, when-done}
-use Rattle.defs.proofs.LadderLaws.{record-passed}
+use Rattle.defs.proofs.LadderLaws.{record-passed, record-refused, behind-two, left-alike}
 use Rattle.defs.proofs.LimitLaws.{ring-sizes}
-use Rattle.defs.proofs.MeansLaws.{equal-means}
+use Rattle.defs.proofs.MeansLaws.{not-held, equal-means}
 use Rattle.txbuf.specs.Record.{isEmpty, Wide, usedOf, soundOf, held, NewLeft, newOf, lookAnswer}
 use Rattle.txbuf.specs.Push.{written, PushIn, PushLeft, pushAnswerOf, pushDone, pushOf}
 use Rattle.txbuf.specs.Flush.{FlushIn, FlushLeft, endsBy, flushAnswer, flushCount, flushOver, flushDone, flushKept, flushOf}
@@ -213,7 +213,7 @@ second-unused : (b : TxBuf) (a : StreamAnswers) → bytesHeld b ≡ 0 → usesSe
 second-unused b a e = rw (le-ltb 0 (secondLength b) (omega arith)) (and-false (eqb (counted (a .first)) (firstLength b)))
 
 pub unreached-is-ignored : UnreachedIsIgnored
-unfolding endsBy when
+unfolding flushOf flushKept flushAnswer endsBy when
 unreached-is-ignored = record {
   second = λ i y o other says said u.
       let a : StreamAnswers = record { first = i .answers .first; second = y } in
@@ -223,6 +223,12 @@ unreached-is-ignored = record {
       let p = second-unused (i .ring) (i .answers) e in
       let q = second-unused (i .ring) a e in
       says ∙ alike i a (rw (f, p, q)) (rw (f, p, q)) (rw e) ∙ sym said;
+  unsound = λ i a o other says said n.
+      let d = record-refused _ (not-held _ (sound-means .over (i .ring) (length (i .store)) .0) n) in
+      says
+      ∙ left-alike _ _ _ (flushDone i) (flushDone (withAnswers i a)) (λ (x : Answer). record { answer = told x; count = 0; ring = i .ring; out = i .out }) d
+      (behind-two _ _ _ d) (behind-two _ _ _ d)
+      ∙ sym said;
 }
 
 -- ---- len and is_empty

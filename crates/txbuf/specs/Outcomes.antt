@@ -75,11 +75,13 @@ EveryFlushMeans = (i : FlushIn) (o : FlushLeft) → Wide (i .ring) → FlushSays
 abbrev pub withAnswers : FlushIn → StreamAnswers → FlushIn
 withAnswers i a = record { ring = i .ring; store = i .store; answers = a; out = i .out }
 
--- 01: an answer that isn't reached isn't looked at. The second, where it is not used; both, where the ring is empty
+-- 01: an answer that isn't reached isn't looked at. The second, where it is not used; both, where the ring is empty or not sound (answer 1)
 pub record UnreachedIsIgnored : Type 0 where
   pub second : (i : FlushIn) (y : StreamAnswer) (o other : FlushLeft) → FlushSays i o
       → FlushSays (withAnswers i (record { first = i .answers .first; second = y })) other → usesSecond (i .ring) (i .answers) ≡ false → o ≡ other
   pub both : (i : FlushIn) (a : StreamAnswers) (o other : FlushLeft) → FlushSays i o → FlushSays (withAnswers i a) other → bytesHeld (i .ring) ≡ 0 → o ≡ other
+  pub unsound : (i : FlushIn) (a : StreamAnswers) (o other : FlushLeft) → FlushSays i o → FlushSays (withAnswers i a) other
+      → (SoundOver (i .ring) (length (i .store)) → ⊥) → o ≡ other
 
 -- `len` and `is_empty` tell how many bytes are held, and whether none; `used` tells head minus tail of any record
 pub record LooksMean : Type 0 where
