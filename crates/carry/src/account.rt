@@ -1,6 +1,8 @@
 // What standard error is told: what the program takes, how far it is, and the account at the end.
 use crate::arguments;
+use crate::trip;
 use crate::trip::Trip;
+use defs::Answer;
 use defs::limits::MAX_PKT_BUF_SIZE;
 use defs::limits::MIN_RING_SIZE;
 use libc::STDERR_FILENO;
@@ -69,23 +71,28 @@ pub fn account(t: Trip) {
 
 // What went wrong, if anything did, by 01's number and name where a call was refused.
 fn verdict(t: Trip, held: u32) {
-    if t.refused != 0 {
-        number(b"carry: a call was refused with answer ", t.refused as u64);
-        name(t.refused);
+    let last = t.last;
+    if trip::is_refused(last) {
+        let answer = last.answer;
+        number(
+            b"carry: a call was refused with answer ",
+            defs::number_of(answer) as u64,
+        );
+        name(answer);
     }
     if (t.bytes_in != t.taken) | (held != 0) {
         say(b"carry: the stream took what is said above, the rest did not go on\n");
     }
 }
 
-fn name(answer: u8) {
+fn name(answer: Answer) {
     match answer {
-        1 => say(b", BadRecord\n"),
-        2 => say(b", BadHeader\n"),
-        3 => say(b", BadClock\n"),
-        4 => say(b", BadLength\n"),
-        5 => say(b", BadAnswer\n"),
-        6 => say(b", NoRoom\n"),
-        0 | 7..=255 => say(b"\n"),
+        Answer::BadRecord => say(b", BadRecord\n"),
+        Answer::BadHeader => say(b", BadHeader\n"),
+        Answer::BadClock => say(b", BadClock\n"),
+        Answer::BadLength => say(b", BadLength\n"),
+        Answer::BadAnswer => say(b", BadAnswer\n"),
+        Answer::NoRoom => say(b", NoRoom\n"),
+        _ => say(b"\n"),
     }
 }

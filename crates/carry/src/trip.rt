@@ -16,6 +16,10 @@ pub const GUEST_PORT: u32 = 5000;
 
 pub const GUEST_SPACE: u32 = 65536;
 
+pub struct Answered {
+    pub answer: Answer,
+}
+
 pub struct Trip {
     pub conn: VsockConnection,
     // The guest's end: what it has sent, and the space and the count that it last heard of.
@@ -24,10 +28,10 @@ pub struct Trip {
     pub heard: u32,
     // Without credit it has asked for news, and not heard yet.
     pub asked: bool,
-    // The input has ended; the connection has been reset; a call was refused.
+    // The input has ended; the connection has been reset; how the last call was answered.
     pub ended: bool,
     pub over: bool,
-    pub refused: u8,
+    pub last: Answered,
     // The input could not be read.
     pub unread: bool,
     // The place in the script of moods.
@@ -64,7 +68,9 @@ pub fn opened(size: u32) -> Trip {
         asked: false,
         ended: false,
         over: false,
-        refused: 0,
+        last: Answered {
+            answer: Answer::Done,
+        },
         unread: false,
         writes: 0,
         packets: 0,
@@ -76,24 +82,27 @@ pub fn opened(size: u32) -> Trip {
 }
 
 pub fn goes_on(t: Trip) -> bool {
-    !t.over & (t.refused == 0)
+    !t.over & !is_refused(t.last)
 }
 
-// The connection as a call left it, and whether the call was refused.
+// The connection as a call left it, and how the call was answered.
 pub fn moved(trip: Trip, conn: VsockConnection, answer: Answer) -> Trip {
     let ring = conn.tx_buf;
     let mut t = trip;
     t.conn = conn;
-    t.refused = refusal(answer);
+    let last = Answered { answer };
+    t.last = last;
     t.most = larger(t.most, ring.used());
     t
 }
 
-// The number of a refusal; "nothing to say" is none.
-fn refusal(answer: Answer) -> u8 {
+// Whether the last call was refused; "nothing to say" is no refusal.
+pub fn is_refused(last: Answered) -> bool {
+    let answer = last.answer;
     match answer {
-        Answer::NoData => 0,
-        _ => defs::number_of(answer),
+        Answer::Done => false,
+        Answer::NoData => false,
+        _ => true,
     }
 }
 

@@ -26,10 +26,9 @@ use Rattle.txbuf.specs.Push.{PushIn, PushLeft, PushSays, pushAnswer, pushAnswer
 use Rattle.txbuf.specs.declared.record.TxBuf.{TxBuf}
 use Rattle.txbuf.proofs.PushLaws.{push-is-done}
 use Rattle.rules.specs.Record.{soundOver, quiet}
-use Rattle.rules.specs.Send.{goesOf, planOf, killsOf, sendDoorOf, sendLate, sendDoor, sendDoorIn, Lingers, carried, SendIn, SendLeft, pktOf, sendPlan, sendAnswer, sendKills, sendCarried, heardOf, ruleOf, sendDone, sendKept, sendOf}
+use Rattle.rules.specs.Send.{SendPlan, goesOf, planOf, killsOf, sendDoorOf, sendLate, sendDoor, sendDoorIn, Lingers, Killable, carried, Carries, SendIn, SendLeft, pktOf, sendPlan, sendAnswer, sendKills, sendCarried, heardOf, ruleOf, sendDone, sendKept, sendOf}
 use Rattle.rules.specs.declared.record.VsockConnection.{VsockConnection}
-use Rattle.rules.specs.declared.plan.SendPlan.{SendPlan}
-use Rattle.rules.proofs.SendLaws.{Passed}
+use Rattle.rules.proofs.SendLaws.{Passed, carries}
 
 -- ---- where the bytes go
 
@@ -80,6 +79,13 @@ rules i pkt p h s e f =
     let k = s .killable in
     let w : sendPlan i .written ≤ maxPacket = omega arith in
     rw (f, e) (s .lingers, w)
+
+pub killable : (i : SendIn) (p : SendPlan) → Passed i → p ≡ sendPlan i → Killable p
+killable i p s e = rw e (s .killable)
+
+pub carries-by : (i : SendIn) (p : SendPlan) (k : Bool) → Passed i → p ≡ sendPlan i → k ≡ killsOf (i .conn) p
+    → Carries (i .conn .«tx_buf») (i .store) (take (p .len) (i .buf)) (p .written) (p .goes && not k) (i .out)
+carries-by i p k s e f = rw (f, e) (carries i s)
 
 -- ---- the ends of the call
 

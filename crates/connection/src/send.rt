@@ -12,6 +12,7 @@ ghost use Rattle.defs.specs.Answer.{told};
 ghost use Rattle.defs.specs.Limits.{maxRing, maxPacket};
 ghost use Rattle.txbuf.specs.Push.{PushLeft};
 ghost use Rattle.rules.specs.Send.{heardOf, movedOf, updatedOf, onResponse, onShutdown, onCreditRequest, onData, ruleOf, goesOf, planOf, killsOf, sendDoorOf, sendLate, Lingers, Killable, carried, Carries, SendIn, SendLeft, SendSays};
+ghost use Rattle.connection.specs.Plan.{planned};
 use crate::receive::later_by;
 use crate::record::Outcome;
 use crate::record::is_quiet;
@@ -36,7 +37,6 @@ use defs::limits;
 use packet::Decoded;
 use packet::VsockPacketHdr;
 use packet::uapi;
-use rules::SendPlan;
 use rules::VsockConnection;
 use txbuf::TxBuf;
 
@@ -86,6 +86,14 @@ pub fn send_pkt(
 
 // ---- what is decided
 
+// What a packet's data does, in numbers: all 0 where no data goes.
+struct SendPlan {
+    goes: bool,
+    len: usize,
+    written: usize,
+    broken: bool,
+}
+
 // The one write is made where the ring is empty; a would-block counts as nothing taken.
 fn plan_send(
     conn: VsockConnection,
@@ -93,7 +101,7 @@ fn plan_send(
     present: bool,
     answer: StreamAnswer,
 ) -> SendPlan
-    ensures { λ r. ⌜ r ≡ planOf conn pkt present answer ⌝ }
+    ensures { λ r. ⌜ planned r ≡ planOf conn pkt present answer ⌝ }
 {
     let ring = conn.tx_buf;
     let goes = goes(conn, pkt.op, present);
@@ -147,15 +155,15 @@ pub(crate) fn door_past_header(
 
 // 5 and 6.
 fn late(plan: SendPlan, room: usize) -> Answer
-    ensures { λ r. ⌜ r ≡ sendLate plan room ⌝ }
+    ensures { λ r. ⌜ r ≡ sendLate (planned plan) room ⌝ }
 {
     defs::late(plan.len < plan.written, room < plan.written)
 }
 
 // A failed write or a full ring kills.
 fn kills(conn: VsockConnection, plan: SendPlan) -> bool
-    requires { ⌜ Killable plan ⌝ }
-    ensures { λ r. ⌜ r ≡ killsOf conn plan ⌝ }
+    requires { ⌜ Killable (planned plan) ⌝ }
+    ensures { λ r. ⌜ r ≡ killsOf conn (planned plan) ⌝ }
 {
     let ring = conn.tx_buf;
     let held = ring.used() as usize;
@@ -200,7 +208,7 @@ fn rule(
     now_ms: u64,
 ) -> VsockConnection
     requires { ⌜ Lingers conn «now_ms» × (plan .written ≤ maxPacket) ⌝ }
-    ensures { λ r. ⌜ r ≡ ruleOf conn empty pkt plan kills ring «now_ms» ⌝ }
+    ensures { λ r. ⌜ r ≡ ruleOf conn empty pkt (planned plan) kills ring «now_ms» ⌝ }
 {
     let op = pkt.op;
     match op {
@@ -275,7 +283,7 @@ fn on_credit_request(conn: VsockConnection) -> VsockConnection
 // the guest a credit update.
 fn on_data(conn: VsockConnection, plan: SendPlan, kills: bool, ring: TxBuf) -> VsockConnection
     requires { ⌜ plan .written ≤ maxPacket ⌝ }
-    ensures { λ r. ⌜ r ≡ onData conn plan kills ring ⌝ }
+    ensures { λ r. ⌜ r ≡ onData conn (planned plan) kills ring ⌝ }
 {
     if plan.goes {
         let next = moved(conn, ring, plan.written);

@@ -27,56 +27,6 @@ use Rattle.csm.specs.declared.timer.Timer.{Timer}
 use Rattle.csm.proofs.MeansLaws.{every-state-means}
 use Rattle.csm.proofs.TurnLaws.{hasNothing, lacksBuffer, turn-number}
 
--- a turn of these indications: Rst, Response, Request, Rw, CreditUpdate
-abbrev turn : Bool → Bool → Bool → Bool → Bool → ConnState → Bool → Bool → ReadAnswer → Timer → Timer → Timer → Turn
-turn r s q w u state noCredit present a expiry wait linger = record {
-  pending = record { request = q; response = s; rst = r; rw = w; «credit_update» = u };
-  state = state;
-  noCredit = noCredit;
-  present = present;
-  answer = a;
-  expiry = expiry;
-  wait = wait;
-  linger = linger;
-}
-
-module _ (expiry wait linger : Timer) where
-  abbrev Says : Bool → Bool → Bool → Bool → Bool → ConnState → Bool → Bool → ReadAnswer → Type 0
-  Says r s q w u state noCredit present a = let t : Turn = turn r s q w u state noCredit present a expiry wait linger in saidBy t ≡ saidNow t
-
-  -- Rw in a state that serves data
-  served : (state : ConnState) → gives state ≡ true → servesData state ≡ true → (u noCredit present : Bool) (a : ReadAnswer) → Says false false false true u state noCredit present a
-  unfolding turnStep when
-  served state g h u true present a = simp (g, h)
-  served state g h u false false a = simp (g, h)
-  served state g h u false true (Count n) = simp (g, h) (⊎-elim (λ (e : eqb n 0 ≡ true). rw e) (λ (e : eqb n 0 ≡ false). rw e) (true-or-false (eqb n 0)))
-  served state g h true false true WouldBlock = simp (g, h)
-  served state g h false false true WouldBlock = simp (g, h)
-  served state g h u false true Failed = simp (g, h)
-
-  -- and in one that does not
-  unserved : (state : ConnState) → gives state ≡ false → servesData state ≡ false → (u noCredit present : Bool) (a : ReadAnswer) → Says false false false true u state noCredit present a
-  unfolding turnStep when
-  unserved state g h u noCredit present a = simp (g, h)
-
-  says : (r s q w u : Bool) (state : ConnState) (noCredit present : Bool) (a : ReadAnswer) → Says r s q w u state noCredit present a
-  unfolding turnStep when
-  says true s q w u state noCredit present a = refl
-  says false true q w u state noCredit present a = refl
-  says false false true w u state noCredit present a = refl
-  says false false false true u state noCredit present a =
-      ⊎-elim
-      (λ (g : gives state ≡ true). served state g (sym (every-state-means state .gives) ∙ g) u noCredit present a)
-      (λ (g : gives state ≡ false). unserved state g (sym (every-state-means state .gives) ∙ g) u noCredit present a)
-      (true-or-false (gives state))
-  says false false false false true state noCredit present a = refl
-  says false false false false false state noCredit present a = refl
-
-pub says-first-pending : SaysFirstPending
-says-first-pending t =
-    let p = t .pending in
-    says (t .expiry) (t .wait) (t .linger) (p .rst) (p .response) (p .request) (p .rw) (p .«credit_update») (t .state) (t .noCredit) (t .present) (t .answer)
-
 -- ---- 7 and 8
 
 -- a step that is not done says nothing, and without a buffer a pending update stays
@@ -149,3 +99,55 @@ seven-and-eight t =
           after-no-buffer p (rowOf step .ends) (not-true _ (s .0)) (not-true _ (s .1)) (not-true _ (q .1)) (keeps-update step e);
       blank = blank step;
     }
+
+-- ---- 01's order
+
+-- a turn of these indications: Rst, Response, Request, Rw, CreditUpdate
+abbrev turn : Bool → Bool → Bool → Bool → Bool → ConnState → Bool → Bool → ReadAnswer → Timer → Timer → Timer → Turn
+turn r s q w u state noCredit present a expiry wait linger = record {
+  pending = record { request = q; response = s; rst = r; rw = w; «credit_update» = u };
+  state = state;
+  noCredit = noCredit;
+  present = present;
+  answer = a;
+  expiry = expiry;
+  wait = wait;
+  linger = linger;
+}
+
+module _ (expiry wait linger : Timer) where
+  abbrev Says : Bool → Bool → Bool → Bool → Bool → ConnState → Bool → Bool → ReadAnswer → Type 0
+  Says r s q w u state noCredit present a = let t : Turn = turn r s q w u state noCredit present a expiry wait linger in saidBy t ≡ saidNow t
+
+  -- Rw in a state that serves data
+  served : (state : ConnState) → gives state ≡ true → servesData state ≡ true → (u noCredit present : Bool) (a : ReadAnswer) → Says false false false true u state noCredit present a
+  unfolding turnStep when
+  served state g h u true present a = simp (g, h)
+  served state g h u false false a = simp (g, h)
+  served state g h u false true (Count n) = simp (g, h) (⊎-elim (λ (e : eqb n 0 ≡ true). rw e) (λ (e : eqb n 0 ≡ false). rw e) (true-or-false (eqb n 0)))
+  served state g h true false true WouldBlock = simp (g, h)
+  served state g h false false true WouldBlock = simp (g, h)
+  served state g h u false true Failed = simp (g, h)
+
+  -- and in one that does not
+  unserved : (state : ConnState) → gives state ≡ false → servesData state ≡ false → (u noCredit present : Bool) (a : ReadAnswer) → Says false false false true u state noCredit present a
+  unfolding turnStep when
+  unserved state g h u noCredit present a = simp (g, h)
+
+  says : (r s q w u : Bool) (state : ConnState) (noCredit present : Bool) (a : ReadAnswer) → Says r s q w u state noCredit present a
+  unfolding turnStep when
+  says true s q w u state noCredit present a = refl
+  says false true q w u state noCredit present a = refl
+  says false false true w u state noCredit present a = refl
+  says false false false true u state noCredit present a =
+      ⊎-elim
+      (λ (g : gives state ≡ true). served state g (sym (every-state-means state .gives) ∙ g) u noCredit present a)
+      (λ (g : gives state ≡ false). unserved state g (sym (every-state-means state .gives) ∙ g) u noCredit present a)
+      (true-or-false (gives state))
+  says false false false false true state noCredit present a = refl
+  says false false false false false state noCredit present a = refl
+
+pub says-first-pending : SaysFirstPending
+says-first-pending t =
+    let p = t .pending in
+    says (t .expiry) (t .wait) (t .linger) (p .rst) (p .response) (p .request) (p .rw) (p .«credit_update») (t .state) (t .noCredit) (t .present) (t .answer)

@@ -1,4 +1,4 @@
--- Laws of the stream's answers, past a `let StreamAnswer::Count(n) = a else`. Assumes nothing.
+-- Laws of the stream's answers: what each means, and what is known past a `let StreamAnswer::Count(n) = a else`. Assumes nothing.
 use Prim.Native.Nat.{ℕ, _<_}
 use mathlib.Core.Path.{_≡_, refl, sym, ap, _∙_}
 use mathlib.Core.Logic.{_⊎_, inl, inr, ⊎-elim}
@@ -20,40 +20,6 @@ use Rattle.defs.proofs.Basics.{never}
 use Rattle.defs.proofs.MeansLaws.{in-words}
 use Rattle.defs.proofs.stream.StreamAnswer.{the-type}
 use Rattle.defs.proofs.stream.ReadAnswer.{the-type as read-type}
-
-abbrev otherKeys : List ℕ
-otherKeys = 1 ∷ 2 ∷ []
-
--- a would-block or a failure
-abbrev pub NotCount : StreamAnswer → Type 0
-NotCount a = OneOf otherKeys (tagOf the-type a)
-
-pub takes-none : (a : StreamAnswer) → NotCount a → counted a ≡ 0
-takes-none (Count n) k = absurd (miss otherKeys 0 tt k)
-takes-none WouldBlock k = refl
-takes-none Failed k = refl
-
-pub not-count-stops : (a : StreamAnswer) → NotCount a → isDone (stoppedBy a) ≡ false
-unfolding isDone
-not-count-stops (Count n) k = absurd (miss otherKeys 0 tt k)
-not-count-stops WouldBlock k = refl
-not-count-stops Failed k = refl
-
--- what does not end a call as done takes nothing
-pub stopped-takes-none : (a : StreamAnswer) → isDone (stoppedBy a) ≡ false → counted a ≡ 0
-unfolding isDone
-stopped-takes-none (Count n) e = absurd (never (sym e))
-stopped-takes-none WouldBlock e = refl
-stopped-takes-none Failed e = refl
-
--- the same of the answer to a read
-abbrev pub NotRead : ReadAnswer → Type 0
-NotRead a = OneOf otherKeys (tagOf read-type a)
-
-pub reads-none : (a : ReadAnswer) → NotRead a → readCounted a ≡ 0
-reads-none (ReadCount n) k = absurd (miss otherKeys 0 tt k)
-reads-none ReadWouldBlock k = refl
-reads-none ReadFailed k = refl
 
 -- ---- what each answer means
 
@@ -108,3 +74,39 @@ stream-means = record {
     blocks (ReadCount n) e = absurd (never e)
     blocks ReadWouldBlock e = refl
     blocks ReadFailed e = absurd (never e)
+
+-- ---- past a `let .. else`
+
+abbrev otherKeys : List ℕ
+otherKeys = 1 ∷ 2 ∷ []
+
+-- a would-block or a failure
+abbrev pub NotCount : StreamAnswer → Type 0
+NotCount a = OneOf otherKeys (tagOf the-type a)
+
+pub takes-none : (a : StreamAnswer) → NotCount a → counted a ≡ 0
+takes-none (Count n) k = absurd (miss otherKeys 0 tt k)
+takes-none WouldBlock k = refl
+takes-none Failed k = refl
+
+pub not-count-stops : (a : StreamAnswer) → NotCount a → isDone (stoppedBy a) ≡ false
+unfolding isDone
+not-count-stops (Count n) k = absurd (miss otherKeys 0 tt k)
+not-count-stops WouldBlock k = refl
+not-count-stops Failed k = refl
+
+-- what does not end a call as done takes nothing
+pub stopped-takes-none : (a : StreamAnswer) → isDone (stoppedBy a) ≡ false → counted a ≡ 0
+unfolding isDone
+stopped-takes-none (Count n) e = absurd (never (sym e))
+stopped-takes-none WouldBlock e = refl
+stopped-takes-none Failed e = refl
+
+-- the same of the answer to a read
+abbrev pub NotRead : ReadAnswer → Type 0
+NotRead a = OneOf otherKeys (tagOf read-type a)
+
+pub reads-none : (a : ReadAnswer) → NotRead a → readCounted a ≡ 0
+reads-none (ReadCount n) k = absurd (miss otherKeys 0 tt k)
+reads-none ReadWouldBlock k = refl
+reads-none ReadFailed k = refl

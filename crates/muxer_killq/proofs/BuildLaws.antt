@@ -57,7 +57,7 @@ sorted-collected limit clock slots q r e f =
 -- ---- the refusals
 
 module _ (i : BuildIn) (a : Answer) (e : a ≡ buildAnswer i) (d : a ≡ Done) where
-  pub passed : isKillqLimit (i .limit) && soundTable (i .ports) (i .used) (length (i .times)) ≡ true
+  passed : isKillqLimit (i .limit) && soundTable (i .ports) (i .used) (length (i .times)) ≡ true
   unfolding buildAnswer
   passed = clock-passed a _ _ e d
 

@@ -2,8 +2,8 @@
 use Rattle.queue.proofs.EveryLaws as every
 use Rattle.queue.proofs.QueueLaws as queues
 use Rattle.muxer_killq.specs.Queue.{killq}
-use Rattle.muxer_killq.specs.Promises.{QueueIsItsList, SoundStaysSound, EverySortIsStable, EdgesHold}
-use Rattle.muxer_killq.specs.Outcomes.{SoundMeans, FrontAtPlaceZero, LooksMean, RefusalsChangeNothing, RefusedIsEmpty, EveryNewIsEmpty, BuiltHolds, EveryPushMeans, EveryPeekMeans, EveryPopMeans, EqualityMeans}
+use Rattle.muxer_killq.specs.Promises.{QueueIsItsList, EverySortIsStable, EdgesHold}
+use Rattle.muxer_killq.specs.Outcomes.{SoundMeans, SoundStaysSound, FrontAtPlaceZero, LooksMean, RefusalsChangeNothing, RefusedIsEmpty, EveryNewIsEmpty, BuiltHolds, EveryPushMeans, EveryPeekMeans, EveryPopMeans, EqualityMeans}
 use Rattle.muxer_killq.specs.Answers.{LookAnswers, NewAnswers, PopAnswers, PushAnswers, BuildAnswers}
 use Rattle.muxer_killq.proofs.AnswerLaws as answers
 use Rattle.muxer_killq.proofs.Edges as edges

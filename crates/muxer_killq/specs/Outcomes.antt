@@ -37,6 +37,13 @@ Sound q = (1 ≤ q .limit) × (q .limit ≤ 128) × (q .len ≤ q .limit) × ((n
 abbrev pub SoundMeans : Type 0
 SoundMeans = (q : MuxerKillQ) → Exactly (soundQ q ≡ true) (Sound q)
 
+-- what the calls leave is sound: a constructor or a build that is done, a push or a pop of a sound queue
+pub record SoundStaysSound : Type 0 where
+  pub new : (limit : ℕ) (o : QueuedLeft MuxerKillQ) → NewSays limit o → o .answer .number ≡ 0 → Sound (o .queue)
+  pub from-conn-map : (i : BuildIn) (o : QueuedLeft MuxerKillQ) → BuildSays i o → o .answer .number ≡ 0 → Sound (o .queue)
+  pub push : (i : PushIn) (o : QueuedLeft MuxerKillQ) → PushSays i o → Sound (i .queue) → Sound (o .queue)
+  pub pop : (i : PopIn) (o : PopLeft) → PopSays i o → Sound (i .queue) → Sound (o .queue)
+
 -- 01: queue places are an array of records, front at place 0. So `queue` sees this record, and what it calls the items stands there
 pub record FrontAtPlaceZero : Type 0 where
   pub seen : (q : MuxerKillQ) → killq .seen q ≡ record { places = q .q; len = q .len; limit = q .limit; synced = q .synced }

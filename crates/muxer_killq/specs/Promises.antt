@@ -1,35 +1,21 @@
 -- What this crate promises, in statements only; proofs/Promises has a line for each. Assumes nothing.
 use Prim.Native.Nat.{ℕ, _≤_}
 use mathlib.Core.Path.{_≡_}
-use mathlib.Core.Bool.{Bool, true}
+use mathlib.Core.Bool.{Bool}
 use mathlib.Core.List.{List, [], _∷_}
 use lib.Dec.{eqb}
 use lib.ListN.{length}
-use Rattle.defs.specs.Answer.{told}
 use Rattle.defs.specs.Reading.{Hold}
-use Rattle.defs.specs.declared.answer.Answer.the-variants.{Done}
 use Rattle.conn_map.specs.Table.{chosen}
-use Rattle.queue.specs.Queued.{QueuedLeft}
 use Rattle.queue.specs.Promises as queues
-use Rattle.muxer_killq.specs.Queue.{killq, soundQ, NewSays}
-use Rattle.muxer_killq.specs.Push.{PushIn, PushSays}
-use Rattle.muxer_killq.specs.Pop.{PopIn, PopLeft, PopSays}
+use Rattle.muxer_killq.specs.Queue.{killq}
 use Rattle.muxer_killq.specs.Sort.{sortByTime}
-use Rattle.muxer_killq.specs.Build.{BuildIn, BuildSays}
 use Rattle.muxer_killq.specs.Edges.{readingI, ties, builds}
 use Rattle.muxer_killq.specs.declared.item.MuxerKillQItem.{MuxerKillQItem}
-use Rattle.muxer_killq.specs.declared.killq.MuxerKillQ.{MuxerKillQ}
 
 -- the queue means its list: a list within the limit makes a sound queue that holds it, and a sound queue is the one that its items make
 abbrev pub QueueIsItsList : Type 0
 QueueIsItsList = queues.QueueIsItsList killq
-
--- what the calls leave is sound: a constructor or a build that is done, a push or a pop of a sound queue
-pub record SoundStaysSound : Type 0 where
-  pub new : (limit : ℕ) (left : QueuedLeft MuxerKillQ) → NewSays limit left → left .answer ≡ told Done → soundQ (left .queue) ≡ true
-  pub from-conn-map : (i : BuildIn) (left : QueuedLeft MuxerKillQ) → BuildSays i left → left .answer ≡ told Done → soundQ (left .queue) ≡ true
-  pub push : (i : PushIn) (left : QueuedLeft MuxerKillQ) → PushSays i left → soundQ (i .queue) ≡ true → soundQ (left .queue) ≡ true
-  pub pop : (i : PopIn) (left : PopLeft) → PopSays i left → soundQ (i .queue) ≡ true → soundQ (left .queue) ≡ true
 
 -- the first item of a list is not earlier than a time
 abbrev pub NotBefore : ℕ → List MuxerKillQItem → Type 0

@@ -43,7 +43,7 @@ module _ (ports used pending : List ℕ) where
 -- ---- the refusals
 
 module _ (i : BuildIn) (a : Answer) (e : a ≡ buildAnswer i) (d : a ≡ Done) where
-  pub passed : isRxqLimit (i .limit) && soundTable (i .ports) (i .used) (length (i .pending)) ≡ true
+  passed : isRxqLimit (i .limit) && soundTable (i .ports) (i .used) (length (i .pending)) ≡ true
   unfolding buildAnswer
   passed = record-passed a _ e d
 

@@ -2,8 +2,8 @@
 use Rattle.queue.proofs.EveryLaws as every
 use Rattle.queue.proofs.QueueLaws as queues
 use Rattle.muxer_rxq.specs.Queue.{rxq}
-use Rattle.muxer_rxq.specs.Promises.{QueueIsItsList, SoundStaysSound, EdgesHold}
-use Rattle.muxer_rxq.specs.Outcomes.{SoundMeans, FrontAtPlaceZero, LooksMean, RefusalsChangeNothing, RefusedIsEmpty, EveryNewIsEmpty, BuiltHolds, EveryLastConnMeans, EveryPushMeans, EveryPeekMeans, EveryPopMeans}
+use Rattle.muxer_rxq.specs.Promises.{QueueIsItsList, EdgesHold}
+use Rattle.muxer_rxq.specs.Outcomes.{SoundMeans, SoundStaysSound, FrontAtPlaceZero, LooksMean, RefusalsChangeNothing, RefusedIsEmpty, EveryNewIsEmpty, BuiltHolds, EveryLastConnMeans, EveryPushMeans, EveryPeekMeans, EveryPopMeans}
 use Rattle.muxer_rxq.specs.Answers.{LookAnswers, NewAnswers, PopAnswers, PushAnswers, BuildAnswers}
 use Rattle.muxer_rxq.proofs.AnswerLaws as answers
 use Rattle.muxer_rxq.proofs.Edges as edges

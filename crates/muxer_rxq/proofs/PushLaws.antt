@@ -6,15 +6,15 @@ use mathlib.Core.List.{List, [], _∷_, _++_}
 use native.Mathlib.Omega.{arith}
 use borrow.Author.Tests.{ne-eqb, eq-eqb}
 use lib.Dec.{eqb}
-use lib.ListN.{length, getD, take, set, length-set}
+use lib.ListN.{length, getD, take, set}
 use lib.Seq.{take-suc, length-take-le}
 use Rattle.defs.specs.Choice.{when}
 use Rattle.defs.specs.Answer.{told}
 use Rattle.defs.specs.declared.answer.Answer.the-variants.{Done, NotQueued}
 use Rattle.defs.proofs.Basics.{positive}
-use Rattle.defs.proofs.ChoiceLaws.{when-true, when-false, when-holds}
-use Rattle.queue.specs.Queued.{QueuedLeft, ListLeft, leaves, hasRoom, laid}
-use Rattle.queue.proofs.QueueLaws.{Sound, sound-packed, replaced, append-within}
+use Rattle.defs.proofs.ChoiceLaws.{when-true, when-false}
+use Rattle.queue.specs.Queued.{QueuedLeft, leaves, hasRoom, laid}
+use Rattle.queue.proofs.QueueLaws.{Sound, sound-packed, replaced}
 use Rattle.muxer_rxq.specs.Queue.{zeroItem, rxq, items}
 use Rattle.muxer_rxq.specs.Push.{lastConn, evictList, pushList}
 use Rattle.muxer_rxq.specs.declared.rxq.MuxerRx.{MuxerRx}
@@ -91,14 +91,3 @@ module _ (rx : MuxerRx) (l : List MuxerRx) (limit : ℕ) (synced : Bool) where
   pub evicts : rx .rst ≡ true → hasRoom synced (length l) limit ≡ false → pushList rx l limit synced ≡ evictList rx l synced
   unfolding pushList
   evicts r t = when-false _ _ _ t ∙ when-true _ _ _ r
-
-  -- what is left is within the limit
-  pub push-within : length l ≤ limit → length (pushList rx l limit synced .list) ≤ limit
-  unfolding pushList evictList
-  push-within h =
-      when-holds (λ (o : ListLeft MuxerRx). length (o .list) ≤ limit) (hasRoom synced (length l) limit) _ _
-      (λ t. append-within l rx limit synced t)
-      (λ t.
-      when-holds (λ (o : ListLeft MuxerRx). length (o .list) ≤ limit) (rx .rst) _ _
-      (λ r. when-holds (λ (o : ListLeft MuxerRx). length (o .list) ≤ limit) (eqb (lastConn l) 0) _ _ (λ n. h) (λ n. omega (arith, length-set l (lastConn l - 1) rx)))
-      (λ r. h))

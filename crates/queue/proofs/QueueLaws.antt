@@ -70,6 +70,9 @@ module _ {Q A : Type 0} (k : Kind Q A) where
     packed-sound l limit synced e h =
         rw (packed l limit synced, e, le-leb _ _ h) (places-clear (k .size) (k .zeroItem) (k .isZero) (w .zero-passes) l)
 
+    pub sound-stays-sound : (q : Q) (l : List A) (synced : Bool) → soundQ k q ≡ true → length l ≤ k .seen q .limit → soundQ k (holding k q l synced) ≡ true
+    sound-stays-sound q l synced e h = packed-sound l (k .seen q .limit) synced (parts q e .0) h
+
     -- another sync, the items as they were
     pub synced-anew : (q : Q) (synced : Bool) → Sound k q
         → k .made (record { places = k .seen q .places; len = k .seen q .len; limit = k .seen q .limit; synced = synced }) ≡ holding k q (items k q) synced
@@ -84,9 +87,6 @@ module _ {Q A : Type 0} (k : Kind Q A) where
       packed-items = λ l limit synced. ap (λ (r : Queue A). take (r .len) (r .places)) (packed l limit synced) ∙ items-of (k .size) (k .zeroItem) l;
       sound-packed = λ q n e. sound-packed q (sound-says q n e);
     }
-
-    pub sound-stays-sound : (q : Q) (l : List A) (synced : Bool) → soundQ k q ≡ true → length l ≤ k .seen q .limit → soundQ k (holding k q l synced) ≡ true
-    sound-stays-sound q l synced e h = packed-sound l (k .seen q .limit) synced (parts q e .0) h
 
 -- where there is room, a list with one item more is within the limit
 pub append-within : {A : Type 0} (l : List A) (x : A) (limit : ℕ) (synced : Bool) → hasRoom synced (length l) limit ≡ true → length (l ++ (x ∷ [])) ≤ limit

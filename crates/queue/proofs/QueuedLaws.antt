@@ -9,7 +9,7 @@ use Rattle.defs.specs.Answer.{Told, told, isDone, whenDone}
 use Rattle.defs.specs.Ladder.{recordAnswer}
 use Rattle.defs.specs.declared.answer.Answer.{Answer}
 use Rattle.defs.specs.declared.answer.Answer.the-variants.{Done, NotQueued}
-use Rattle.defs.proofs.AnswerLaws.{NotDone, not-done, when-done, when-not-done, outcome-kept, outcome-done, told-tells-apart}
+use Rattle.defs.proofs.AnswerLaws.{NotDone, not-done, when-done, when-not-done, outcome-kept, outcome-done, number-zero}
 use Rattle.defs.proofs.ChoiceLaws.{when-holds}
 use Rattle.defs.proofs.LadderLaws.{record-passed}
 use Rattle.queue.specs.Queue.{Kind, Lawful, soundQ, items, pack}
@@ -71,14 +71,14 @@ module _ {Q A : Type 0} {k : Kind Q A} (w : Lawful k) (push : List A → ℕ →
 -- ---- what they leave is sound
 
 module _ {Q A : Type 0} (k : Kind Q A) (left : QueuedLeft Q) where
-  pub made-sound : (p : Answer) (made : Q) → (p ≡ Done → soundQ k made ≡ true) → left ≡ madeOf k p made → left .answer ≡ told Done → soundQ k (left .queue) ≡ true
+  pub made-sound : (p : Answer) (made : Q) → (p ≡ Done → soundQ k made ≡ true) → left ≡ madeOf k p made → left .answer .number ≡ 0 → soundQ k (left .queue) ≡ true
   unfolding madeOf
   made-sound p made s e d =
-      let f : p ≡ Done = told-tells-apart p Done (sym (ap (λ (o : QueuedLeft Q). o .answer) e) ∙ d) in
+      let f : p ≡ Done = number-zero p (sym (ap (λ (o : QueuedLeft Q). o .answer .number) e) ∙ d) in
       ap (λ (o : QueuedLeft Q). soundQ k (o .queue)) e ∙ ap (soundQ k) (when-done p made _ f) ∙ s f
 
   module _ (w : Lawful k) where
-    pub new-sound : (limit : ℕ) → left ≡ newOf k limit → left .answer ≡ told Done → soundQ k (left .queue) ≡ true
+    pub new-sound : (limit : ℕ) → left ≡ newOf k limit → left .answer .number ≡ 0 → soundQ k (left .queue) ≡ true
     unfolding newOf
     new-sound limit = made-sound _ _ (λ d. queue-is-its-list k w .packed-sound [] limit true (record-passed _ (k .isLimit limit) refl d) (omega arith))
 

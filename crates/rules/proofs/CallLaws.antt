@@ -41,11 +41,10 @@ use Rattle.rules.specs.Open.{ConnLeft}
 use Rattle.rules.specs.Look.{lookAnswer, timedAnswer, StateLeft, stateOf, ExpiryLeft, expiryOf, EvSetLeft, evSetOf, killOf}
 use Rattle.rules.specs.Raw.{RawLeft, rawAnswer, rawDone, rawKept, rawOf}
 use Rattle.rules.specs.Receive.{RecvIn, RecvLeft, spokenOf, receivedOf, headerOf, recvDoor, recvRefusal, refusalOf, nextStep, recvDone, recvKept, recvOf}
-use Rattle.rules.specs.Send.{heardOf, movedOf, updatedOf, onResponse, onShutdown, onCreditRequest, onData, ruleOf, goesOf, planOf, killsOf, SendIn, SendLeft, pktOf, sendPlan, sendAnswer, sendKills, sendCarried, sendDone, sendKept, sendOf, accepted}
+use Rattle.rules.specs.Send.{SendPlan, heardOf, movedOf, updatedOf, onResponse, onShutdown, onCreditRequest, onData, ruleOf, goesOf, planOf, killsOf, SendIn, SendLeft, pktOf, sendPlan, sendAnswer, sendKills, sendCarried, sendDone, sendKept, sendOf, accepted}
 use Rattle.rules.specs.Notify.{NotifyIn, NotifyLeft, seenOf, settledOf, drainedOf, due, flushed, notifyAnswer, notifyDone, notifyKept, notifyOf}
-use Rattle.rules.specs.Outcomes.{TurnLeaves, HeaderFits, HeaderTells, initialised, SevenAndEightLeave, turnOf, headerNow, connNow, EveryTurnLeaves, RefusalsChangeNothing, EverySendHears, meetsData, writesNow, takenNow, killsNow, acceptedNow, EverySendAccepts, fallsShort, UpdateIsDue, KillMeans, EveryKillKills, EveryPollPolls, ExpiryMeans, LooksTell, RefusedTellsNothing}
+use Rattle.rules.specs.Outcomes.{HeaderFits, HeaderTells, initialised, SevenAndEightLeave, turnOf, headerNow, connNow, EveryTurnLeaves, RefusalsChangeNothing, EverySendHears, meetsData, writesNow, takenNow, killsNow, acceptedNow, EverySendAccepts, fallsShort, UpdateIsDue, KillMeans, EveryKillKills, EveryPollPolls, ExpiryMeans, LooksTell, RefusedTellsNothing}
 use Rattle.rules.specs.declared.record.VsockConnection.{VsockConnection}
-use Rattle.rules.specs.declared.plan.SendPlan.{SendPlan}
 
 -- ---- refusals
 
@@ -309,6 +308,30 @@ header-tells = record {
       (ap (λ (h : VsockPacketHdr). h .op) e ∙ n .0, ap (λ (h : VsockPacketHdr). h .len) e ∙ n .1);
 }
 
+blank-header : (c : VsockConnection) (s : Said) → s .op ≡ 0 → s .len ≡ 0 → s .flags ≡ 0 → encoded (headerNow c s) ≡ encoded (initialised c s)
+blank-header c s p q r = rw (p, q, r)
+
+module _ (i : RecvIn) (o : RecvLeft) (says : o ≡ recvOf i) (l : 7 ≤ o .answer .number) where
+  spoken : o ≡ recvDone i
+  spoken = turn-done i o says (λ r. omega (arith, r .1))
+
+  pending-left : o .conn .«pending_rx» ≡ saidBy (turnOf i) .pending
+  unfolding recvDone receivedOf spokenOf creditOf
+  pending-left = ap (λ (x : RecvLeft). x .conn .«pending_rx») spoken
+
+  header-left : o .hdr ≡ encoded (initialised (i .conn) (saidNow (turnOf i)))
+  unfolding recvDone headerOf creditOf
+  header-left =
+      let b = seven-and-eight (turnOf i) .blank (λ z. let n = turn-number i o says l in omega arith) in
+      ap (λ (x : RecvLeft). x .hdr) spoken ∙ blank-header (i .conn) (saidBy (turnOf i)) (b .0) (b .1) (b .2)
+
+pub seven-and-eight-leave : SevenAndEightLeave
+seven-and-eight-leave i o says = record {
+  seven = λ n. let l : 7 ≤ o .answer .number = omega arith in pending-left i o says l ∙ seven-and-eight (turnOf i) .seven (sym (turn-number i o says l) ∙ n);
+  eight = λ n. let l : 7 ≤ o .answer .number = omega arith in pending-left i o says l ∙ seven-and-eight (turnOf i) .eight (sym (turn-number i o says l) ∙ n);
+  header = header-left i o says;
+}
+
 pub every-turn-leaves : EveryTurnLeaves
 unfolding recvDone receivedOf spokenOf headerOf creditOf
 every-turn-leaves i o says k =
@@ -319,32 +342,6 @@ every-turn-leaves i o says k =
       hdr = ap (λ (x : RecvLeft). x .hdr) z ∙ ap (λ (x : Said). encoded (headerNow (i .conn) x)) m;
       buf = ap (λ (x : RecvLeft). x .buf) z ∙ ap (λ (x : Said). take (x .len) (i .read) ++ drop (x .len) (i .buf)) m;
     }
-
-blank-header : (c : VsockConnection) (s : Said) → s .op ≡ 0 → s .len ≡ 0 → s .flags ≡ 0 → encoded (headerNow c s) ≡ encoded (initialised c s)
-blank-header c s p q r = rw (p, q, r)
-
-module _ (i : RecvIn) (o : RecvLeft) (says : o ≡ recvOf i) (l : 7 ≤ o .answer .number) where
-  left : TurnLeaves i o
-  left = every-turn-leaves i o says (λ r. omega (arith, r .1))
-
-  -- by the row and by 01's order
-  same-said : saidNow (turnOf i) ≡ saidBy (turnOf i)
-  same-said = sym (says-first-pending (turnOf i))
-
-  pending-left : o .conn .«pending_rx» ≡ saidBy (turnOf i) .pending
-  pending-left = ap (λ (x : VsockConnection). x .«pending_rx») (left .conn) ∙ ap (λ (x : Said). x .pending) same-said
-
-  header-left : o .hdr ≡ encoded (initialised (i .conn) (saidNow (turnOf i)))
-  header-left =
-      let n = says-nothing i o says l in
-      left .hdr ∙ blank-header (i .conn) (saidNow (turnOf i)) (n .0) (n .1) (n .2)
-
-pub seven-and-eight-leave : SevenAndEightLeave
-seven-and-eight-leave i o says = record {
-  seven = λ n. let l : 7 ≤ o .answer .number = omega arith in pending-left i o says l ∙ seven-and-eight (turnOf i) .seven (sym (turn-number i o says l) ∙ n);
-  eight = λ n. let l : 7 ≤ o .answer .number = omega arith in pending-left i o says l ∙ seven-and-eight (turnOf i) .eight (sym (turn-number i o says l) ∙ n);
-  header = header-left i o says;
-}
 
 -- ---- killing, polled events, timers
 

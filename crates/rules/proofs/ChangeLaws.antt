@@ -53,13 +53,12 @@ use Rattle.rules.specs.Record.{peerOf, sentOf, regrouped, quiet, withSta
 use Rattle.rules.specs.Open.{Opening, ConnLeft, freshOf, allocated, zeroConn, openAnswer, peerInitOf, localInitOf}
 use Rattle.rules.specs.Raw.{RawLeft, rawDoor, rawAnswer, rawDone, rawKept, rawOf}
 use Rattle.rules.specs.Look.{lookAnswer, killOf}
-use Rattle.rules.specs.Send.{heardOf, movedOf, updatedOf, onResponse, onShutdown, onCreditRequest, onData, ruleOf, planOf, SendIn, SendLeft, sendPlan, sendAnswer, sendKills, sendCarried, sendDone, sendKept, sendOf, carried}
+use Rattle.rules.specs.Send.{SendPlan, heardOf, movedOf, updatedOf, onResponse, onShutdown, onCreditRequest, onData, ruleOf, planOf, SendIn, SendLeft, sendPlan, sendAnswer, sendKills, sendCarried, sendDone, sendKept, sendOf, carried}
 use Rattle.rules.specs.Moves.{Numbers}
 use Rattle.rules.specs.Outcomes.{meetsData, writesNow, takenNow, killsNow, fallsShort}
 use Rattle.rules.specs.Common.{TimersArm, LastToldMoves}
 use Rattle.rules.specs.Leaves.{pushedOn, takenOff, shutsReceive, shutsSend, closedBy, closedNow, confirmed, dataKills, dataStays, stateNow, cleared, lingersNow, timerNow, flushesNow, flushFails, flushEnds, SendLeaves, NotifyLeaves, EveryNotifyLeaves, Opened, OpeningMeans, AllZero, RefusedIsZero, EveryRawLeaves, EverySendLeaves}
 use Rattle.rules.specs.declared.record.VsockConnection.{VsockConnection}
-use Rattle.rules.specs.declared.plan.SendPlan.{SendPlan}
 use Rattle.rules.proofs.RecordLaws.{sound-over-ring}
 use Rattle.rules.proofs.AnswerLaws.{notify-told}
 use Rattle.rules.proofs.SendLaws.{passed}

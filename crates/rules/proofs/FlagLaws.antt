@@ -29,11 +29,10 @@ use Rattle.rules.specs.Record.{quiet, creditOf, withState, killedOf}
 use Rattle.rules.specs.Open.{Opening, ConnLeft, freshOf, zeroConn, openAnswer, peerInitOf, localInitOf}
 use Rattle.rules.specs.Look.{lookAnswer, killOf}
 use Rattle.rules.specs.Receive.{spokenOf, receivedOf, RecvIn, RecvLeft, refusalOf, saidBy, recvDone, recvKept, recvOf}
-use Rattle.rules.specs.Send.{SendLeft, heardOf, movedOf, updatedOf, onResponse, onShutdown, onCreditRequest, onData, ruleOf, SendIn, pktOf, sendPlan, sendAnswer, sendKills, sendCarried, sendDone, sendKept, sendOf}
+use Rattle.rules.specs.Send.{SendPlan, SendLeft, heardOf, movedOf, updatedOf, onResponse, onShutdown, onCreditRequest, onData, ruleOf, SendIn, pktOf, sendPlan, sendAnswer, sendKills, sendCarried, sendDone, sendKept, sendOf}
 use Rattle.rules.specs.Notify.{NotifyLeft, seenOf, settledOf, drainedOf, NotifyIn, due, flushed, notifyAnswer, notifyDone, notifyKept, notifyOf}
 use Rattle.rules.specs.Runs.{Event, sends, receives, notifies, kills, looks, after, Made, connections, Opens, FlagsOnlyGrow}
 use Rattle.rules.specs.declared.record.VsockConnection.{VsockConnection}
-use Rattle.rules.specs.declared.plan.SendPlan.{SendPlan}
 
 -- ---- what may follow a state
 

@@ -34,12 +34,11 @@ use Rattle.rules.specs.Record.{quiet, withState, killedOf}
 use Rattle.rules.specs.Receive.{spokenOf, receivedOf, RecvLeft, refusalOf, recvDone, recvKept, recvOf}
 use Rattle.rules.specs.Open.{ConnLeft}
 use Rattle.rules.specs.Look.{lookAnswer, killOf}
-use Rattle.rules.specs.Send.{heardOf, movedOf, updatedOf, onResponse, onShutdown, onCreditRequest, onData, ruleOf, goesOf, planOf, carried, SendIn, SendLeft, pktOf, sendPlan, sendAnswer, payload, sendKills, sendCarried, sendDone, sendKept, sendOf, accepted}
+use Rattle.rules.specs.Send.{SendPlan, heardOf, movedOf, updatedOf, onResponse, onShutdown, onCreditRequest, onData, ruleOf, goesOf, planOf, carried, SendIn, SendLeft, pktOf, sendPlan, sendAnswer, payload, sendKills, sendCarried, sendDone, sendKept, sendOf, accepted}
 use Rattle.rules.specs.Notify.{seenOf, settledOf, drainedOf, NotifyIn, NotifyLeft, due, flushIn, flushed, notifyAnswer, notifyDone, notifyKept, notifyOf}
 use Rattle.rules.specs.Moves.{Account, account, Numbers, sendTaken, notifyTaken, Moved}
 use Rattle.rules.specs.Promises.{SendMoves, NotifyMoves, ReceiveKeeps, KillKeeps}
 use Rattle.rules.specs.declared.record.VsockConnection.{VsockConnection}
-use Rattle.rules.specs.declared.plan.SendPlan.{SendPlan}
 use Rattle.rules.proofs.SendLaws.{Passed, passed, carries}
 
 -- whichever way it goes, the same account

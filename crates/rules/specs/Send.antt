@@ -30,7 +30,13 @@ use Rattle.csm.specs.declared.state.ConnState.{ConnState}
 use Rattle.csm.specs.declared.state.ConnState.the-variants.{Established}
 use Rattle.rules.specs.Record.{soundOver, quiet, peerOf, onwardOf, sentOf, phaseOf, regrouped, withState, killedOf}
 use Rattle.rules.specs.declared.record.VsockConnection.{VsockConnection}
-use Rattle.rules.specs.declared.plan.SendPlan.{SendPlan}
+
+-- what a packet's data does, in numbers: all 0 where no data goes
+pub record SendPlan : Type 0 where
+  pub goes : Bool
+  pub len : ℕ
+  pub written : ℕ
+  pub broken : Bool
 
 -- ---- the rules of the ops, on the record alone
 
@@ -89,7 +95,7 @@ goesOf c op present = takes (c .state) && present && eqb op opRw
 abbrev pub writesOf : VsockConnection → ℕ → Bool → Bool
 writesOf c op present = goesOf c op present && quiet (c .«tx_buf»)
 
--- what a packet's data does, in numbers
+-- the plan of a packet
 unfoldable pub planOf : VsockConnection → VsockPacketHdr → Bool → StreamAnswer → SendPlan
 planOf c pkt present a = record {
   goes = goesOf c (pkt .op) present;
@@ -152,7 +158,7 @@ pub record SendLeft : Type 0 where
 abbrev pub pktOf : SendIn → VsockPacketHdr
 pktOf i = decoded (i .hdr)
 
--- the plan of this packet
+-- of this one
 abbrev pub sendPlan : SendIn → SendPlan
 sendPlan i = planOf (i .conn) (pktOf i) (i .present) (i .answers .first)
 

@@ -1,8 +1,6 @@
 // The rules of a connection, said over its record: what is sound, what each call leaves, what holds
 // of every run (specs/), and the laws of these (proofs/). The calls themselves stand in `connection`.
-mod plan;
 mod record;
 
-pub use plan::SendPlan;
 pub use record::Settings;
 pub use record::VsockConnection;

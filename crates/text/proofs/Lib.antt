@@ -1,3 +1,4 @@
+pub mod Edges
 pub mod HexLaws
 pub mod Promises
 pub mod Pinned

@@ -1,8 +1,6 @@
--- The promises of specs/Promises, each by its law. Assumes nothing.
-use mathlib.Core.Path.{refl}
-use Rattle.text.specs.Hex.{hexed}
+-- The promise of specs/Promises. Assumes nothing.
 use Rattle.text.specs.Promises.{EdgesHold}
+use Rattle.text.proofs.Edges as edges
 
 pub edges-hold : EdgesHold
-unfolding hexed
-edges-hold = record { digits = refl; room = refl }
+edges-hold = edges.edges-hold

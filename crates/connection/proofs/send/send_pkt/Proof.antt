@@ -6,10 +6,10 @@ use lib.ListN.{length-take}
 use denote.Ref.{now}
 use Rattle.defs.proofs.AnswerLaws.{not-done}
 use Rattle.packet.proofs.Callers.{header-is, no-header}
-use Rattle.rules.specs.Send.{SendIn}
-use Rattle.rules.specs.declared.plan.SendPlan.{SendPlan}
-use Rattle.rules.proofs.SendLaws.{Passed, passed, carries}
-use Rattle.connection.proofs.SendLaws.{Found, found, rules, send-no-header, send-kept, send-left}
+use Rattle.rules.specs.Send.{SendPlan, SendIn}
+use Rattle.rules.proofs.SendLaws.{Passed, passed}
+use Rattle.connection.specs.Plan.{planned}
+use Rattle.connection.proofs.SendLaws.{Found, found, rules, killable, carries-by, send-no-header, send-kept, send-left}
 use Rattle.connection.proofs.send.send_pkt.Statement.{statement}
 use Rattle.connection.proofs.send.send_pkt.Tie as tie
 
@@ -23,7 +23,7 @@ given d =
 abbrev at : tie.After-lowest → SendIn
 at f = given (f .before .before .before .before .before .before .before)
 
-known : (f : tie.After-lowest) → Found (at f) (f .before .before .before .before .before .pkt .given .0 .0) (f .before .before .before .plan-send .result) (f .lowest .result)
+known : (f : tie.After-lowest) → Found (at f) (f .before .before .before .before .before .pkt .given .0 .0) (planned (f .before .before .before .plan-send .result)) (f .lowest .result)
 known f =
     let l = f .before in
     let p = l .before .before in
@@ -44,7 +44,7 @@ returns-2 : tie.Need-returns-2
 returns-2 c = send-kept (at (c .before)) _ (known (c .before) .refusal) (not-done _ (c .match2 .keys2))
 
 kills-requires : tie.Need-kills-requires
-kills-requires c κs = rw (known (c .before .before) .plan) (fine c .killable)
+kills-requires c κs = killable _ _ (fine c) (known (c .before .before) .plan)
 
 slice-aggregate-carry : tie.Need-slice-aggregate-carry
 slice-aggregate-carry c =
@@ -57,7 +57,7 @@ carry-requires : tie.Need-carry-requires
 carry-requires c κs =
     let e = c .before .before .before .before .before in
     let f = e .before .before .before in
-    rw (e .kills .ensures, known f .plan) (carries (at f) (fine (e .before)))
+    carries-by (at f) _ _ (fine (e .before)) (known f .plan) (e .kills .ensures)
 
 rule-requires : tie.Need-rule-requires
 rule-requires c κs =
