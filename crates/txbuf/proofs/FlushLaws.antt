@@ -675,13 +675,13 @@ pub flush-kept : (i : FlushIn) (left : FlushLeft) → FlushSays i left → isDon
 flush-kept i left says n = ap (λ (o : FlushLeft). o .out) (says ∙ sym (flush-refused i (flushAnswer i) refl n))
 
 oldest : (i : FlushIn) → Wide (i .ring) → TakesOldest i (flushOf i)
+unfolding flushDone
 oldest i w =
     ⊎-elim
     (λ (t : isDone (flushAnswer i) ≡ true).
     let d = is-done (flushAnswer i) t in
-    let e : flushOf i ≡ doneAt i (flushCount i) = flush-is-done i d ∙ done-at i (flushCount i) refl in
     let hd : List ℕ = held (i .ring) (i .store) in
-    rw e
+    rw (flush-is-done i d)
     (record {
       front = refl;
       rest =
