@@ -16,6 +16,7 @@ pub const GUEST_PORT: u32 = 5000;
 
 pub const GUEST_SPACE: u32 = 65536;
 
+// An answer in a struct of its own: a field that is an enum can't be set.
 pub struct Answered {
     pub answer: Answer,
 }
