@@ -39,12 +39,12 @@ some-means n = (λ e. positive n (eqb-false n 0 (not-true _ e)), λ l. ap not (n
 pub equal-means : (a b : ℕ) → Exactly (eqb a b ≡ true) (a ≡ b)
 equal-means a b = (eqb-true a b, eq-eqb a b)
 
-pub not-means : {b : Bool} {P : Type 0} → Exactly (b ≡ true) P → Exactly (not b ≡ true) (P → ⊥)
-not-means {b} {P} m = (λ e p. never (sym (not-true b e) ∙ m .1 p), λ n. ⊎-elim (λ (t : b ≡ true). absurd (n (m .0 t))) (λ (f : b ≡ false). ap not f) (true-or-false b))
-
 -- a test whose fact is not so does not hold
 pub not-held : (b : Bool) {P : Type 0} → (b ≡ true → P) → (P → ⊥) → b ≡ false
 not-held b f n = ⊎-elim (λ (t : b ≡ true). absurd (n (f t))) (λ (e : b ≡ false). e) (true-or-false b)
+
+pub not-means : {b : Bool} {P : Type 0} → Exactly (b ≡ true) P → Exactly (not b ≡ true) (P → ⊥)
+not-means {b} m = (λ e p. never (sym (not-true b e) ∙ m .1 p), λ n. ap not (not-held b (m .0) n))
 
 pub and-means : {a b : Bool} {P Q : Type 0} → Exactly (a ≡ true) P → Exactly (b ≡ true) Q → Exactly (a && b ≡ true) (P × Q)
 and-means {a} {b} p q = (λ e. let s = both a b e in (p .0 (s .0), q .0 (s .1)), λ r. both-true a b (p .1 (r .0)) (q .1 (r .1)))

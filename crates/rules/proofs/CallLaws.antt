@@ -7,7 +7,7 @@ use mathlib.Core.List.{[], _++_}
 use native.Mathlib.Omega.{arith}
 use lib.Dec.{leb, eqb}
 use lib.ListN.{take, drop}
-use borrow.Author.Tests.{eqb-true, ne-eqb, le-leb}
+use borrow.Author.Tests.{eqb-true, ne-eqb, le-leb, not-false}
 use Rattle.defs.specs.Answer.{Told, told, isDone, whenDone}
 use Rattle.defs.specs.Choice.{when}
 use Rattle.defs.specs.Credit.{peerNeedsCreditUpdate}
@@ -19,9 +19,11 @@ use Rattle.defs.specs.declared.answer.Answer.{Answer}
 use Rattle.defs.specs.declared.answer.Answer.the-variants.{Done}
 use Rattle.defs.proofs.Basics.{never, both, true-or-false, positive, or-true, or-false}
 use Rattle.defs.proofs.AnswerLaws.{done-is-done, is-done, done-passes, when-done, when-not-done, when-refused, number-zero, answer-told, left-done, left-kept}
+use Rattle.defs.proofs.LadderLaws.{lowest-passed, door-passed}
 use Rattle.defs.proofs.LookLaws.{flag-done}
 use Rattle.defs.proofs.ChoiceLaws.{when-true, when-false, when-holds}
-use Rattle.packet.specs.Header.{encoded, decoded}
+use Rattle.packet.specs.Header.{layout, fields, encoded, decoded}
+use Rattle.packet.specs.Promises.{Fit}
 use Rattle.packet.proofs.HeaderLaws.{decoded-encoded}
 use Rattle.packet.specs.Uapi.{opResponse, opShutdown, opRw, opCreditRequest}
 use Rattle.packet.specs.declared.hdr.VsockPacketHdr.{VsockPacketHdr}
@@ -43,8 +45,10 @@ use Rattle.rules.specs.Raw.{RawLeft, rawAnswer, rawDone, rawKept, rawOf}
 use Rattle.rules.specs.Receive.{RecvIn, RecvLeft, spokenOf, receivedOf, headerOf, recvDoor, recvRefusal, refusalOf, nextStep, recvDone, recvKept, recvOf}
 use Rattle.rules.specs.Send.{SendPlan, heardOf, movedOf, updatedOf, onResponse, onShutdown, onCreditRequest, onData, ruleOf, goesOf, planOf, killsOf, SendIn, SendLeft, pktOf, sendPlan, sendAnswer, sendKills, sendCarried, sendDone, sendKept, sendOf, accepted}
 use Rattle.rules.specs.Notify.{NotifyIn, NotifyLeft, seenOf, settledOf, drainedOf, due, flushed, notifyAnswer, notifyDone, notifyKept, notifyOf}
-use Rattle.rules.specs.Outcomes.{HeaderFits, HeaderTells, initialised, SevenAndEightLeave, turnOf, headerNow, connNow, EveryTurnLeaves, RefusalsChangeNothing, EverySendHears, meetsData, writesNow, takenNow, killsNow, acceptedNow, EverySendAccepts, fallsShort, UpdateIsDue, KillMeans, EveryKillKills, EveryPollPolls, ExpiryMeans, LooksTell, RefusedTellsNothing}
+use Rattle.rules.specs.Outcomes.{Addressed, HeaderTells, initialised, SevenAndEightLeave, turnOf, headerNow, connNow, EveryTurnLeaves, RefusalsChangeNothing, EverySendHears, meetsData, writesNow, takenNow, killsNow, acceptedNow, EverySendAccepts, fallsShort, UpdateIsDue, KillMeans, EveryKillKills, EveryPollPolls, ExpiryMeans, LooksTell, RefusedTellsNothing}
 use Rattle.rules.specs.declared.record.VsockConnection.{VsockConnection}
+use Rattle.rules.proofs.RecordLaws.{sound-means}
+use Rattle.rules.proofs.ReceiveLaws.{passed}
 
 -- ---- refusals
 
@@ -281,11 +285,36 @@ turn-done : (i : RecvIn) (o : RecvLeft) → o ≡ recvOf i → (Refuses (o .answ
 unfolding recvOf
 turn-done i o says k = says ∙ when-done (refusalOf i) _ _ (not-refused i o says k)
 
-header-said : (i : RecvIn) (o : RecvLeft) → o ≡ recvOf i → (Refuses (o .answer) → ⊥) → HeaderFits i → decoded (o .hdr) ≡ headerNow (i .conn) (saidNow (turnOf i))
+-- what is said has an op of at most 7 and flags of at most 3
+row-small : (s : RxStep) → (rowOf s .op ≤ 7) × (rowOf s .flags ≤ 3)
+row-small Rst = (omega arith, omega arith)
+row-small Response = (omega arith, omega arith)
+row-small Request = (omega arith, omega arith)
+row-small OutOfState = (omega arith, omega arith)
+row-small AskCredit = (omega arith, omega arith)
+row-small NoBuffer = (omega arith, omega arith)
+row-small (Data n) = (omega arith, omega arith)
+row-small Close = (omega arith, omega arith)
+row-small Fail = (omega arith, omega arith)
+row-small Update = (omega arith, omega arith)
+row-small Nothing = (omega arith, omega arith)
+
+-- so the header's fields fit their widths
+header-fits : (i : RecvIn) (o : RecvLeft) → o ≡ recvOf i → (Refuses (o .answer) → ⊥) → Addressed (i .conn) → Fit layout (fields (headerNow (i .conn) (saidNow (turnOf i))))
+unfolding recvRefusal recvDoor creditOf
+header-fits i o says k a =
+    let d = not-refused i o says k in
+    let n = passed i d .receivable .count in
+    let r = row-small (nextStep (i .conn) (i .present) (i .answer)) in
+    let s = sound-means .alone (i .conn) .0 (not-false _ (door-passed _ _ _ _ (lowest-passed _ _ d .0) .record-ok)) .settings .most in
+    subst (λ (x : Said). Fit layout (fields (headerNow (i .conn) x))) (says-first-pending (turnOf i))
+    (a .cids .0, (a .cids .1, (a .ports .0, (a .ports .1, (omega arith, (omega arith, (omega arith, (omega arith, (omega arith, (a .count, tt))))))))))
+
+header-said : (i : RecvIn) (o : RecvLeft) → o ≡ recvOf i → (Refuses (o .answer) → ⊥) → Addressed (i .conn) → decoded (o .hdr) ≡ headerNow (i .conn) (saidNow (turnOf i))
 unfolding recvDone headerOf creditOf
-header-said i o says k f =
+header-said i o says k a =
     ap decoded (ap (λ (x : RecvLeft). x .hdr) (turn-done i o says k) ∙ ap (λ (x : Said). encoded (headerNow (i .conn) x)) (says-first-pending (turnOf i)))
-    ∙ decoded-encoded _ f
+    ∙ decoded-encoded _ (header-fits i o says k a)
 
 -- the answer of a turn that isn't refused is its row's
 turn-number : (i : RecvIn) (o : RecvLeft) → o ≡ recvOf i → 7 ≤ o .answer .number → o .answer .number ≡ numberOf (turnOf i)
@@ -302,8 +331,8 @@ says-nothing i o says l =
 pub header-tells : HeaderTells
 header-tells = record {
   said = header-said;
-  blank = λ i o says l f.
-      let e = header-said i o says (λ r. omega (arith, r .1)) f in
+  blank = λ i o says l a.
+      let e = header-said i o says (λ r. omega (arith, r .1)) a in
       let n = says-nothing i o says l in
       (ap (λ (h : VsockPacketHdr). h .op) e ∙ n .0, ap (λ (h : VsockPacketHdr). h .len) e ∙ n .1);
 }

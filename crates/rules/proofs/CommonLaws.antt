@@ -3,11 +3,11 @@ use Prim.Native.Nat.{ℕ, _+_, _-_, _≤_}
 use mathlib.Core.Path.{_≡_, refl, sym, ap, subst, _∙_}
 use mathlib.Core.Logic.{⊎-elim}
 use mathlib.Core.Bool.{Bool, true, false, _&&_}
-use mathlib.Core.List.{List, [], _++_}
+use mathlib.Core.List.{List, []}
 use native.Mathlib.Omega.{arith}
 use lib.Dec.{leb, eqb}
-use lib.ListN.{length, take, drop}
-use borrow.Author.Tests.{ltb-false, eqb-true, ne-eqb, not-true}
+use lib.ListN.{length, take}
+use borrow.Author.Tests.{ltb-false, eqb-true, not-true}
 use Rattle.defs.specs.Answer.{Told, told, isDone, whenDone}
 use Rattle.defs.specs.Choice.{when}
 use Rattle.defs.specs.Stream.{failed, readCounted}
@@ -109,10 +109,13 @@ read-alike i a bytes e =
 
 -- ---- behind a door that refuses
 
--- a door whose number isn't 0 refuses
-shut : (a : Answer) (t : Told) → t ≡ told a → (t .number ≡ 0 → ⊥) → isDone a ≡ false
+-- a door is passed where its number is 0
+open-means : (a : Answer) (t : Told) → t ≡ told a → Exactly (isDone a ≡ true) (t .number ≡ 0)
 unfolding isDone
-shut a t e n = rw (← e) (ne-eqb (t .number) 0 n)
+open-means a t e = rw e (equal-means (told a .number) 0)
+
+shut : (a : Answer) (t : Told) → t ≡ told a → (t .number ≡ 0 → ⊥) → isDone a ≡ false
+shut a t e n = not-held (isDone a) (open-means a t e .0) n
 
 pub unreached-is-ignored : UnreachedIsIgnored
 unfolding sendOf sendAnswer sendDone sendKept recvOf recvKept recvRefusal notifyOf notifyKept notifyAnswer rawOf rawAnswer rawDone rawKept creditOf
@@ -153,11 +156,10 @@ unreached-is-ignored = record {
 
 pub data-fits-peer : DataFitsPeer
 unfolding creditOf
-data-fits-peer i o alloc sent fwd says k v h l m ea es ef =
+data-fits-peer i o alloc sent fwd says k h l m ea es ef =
     let d = not-refused i o says k in
     let p = passed i d in
     let s : saidNow (turnOf i) .len ≡ saidBy i .count = ap (λ (s : Said). s .len) (sym (says-first-pending (turnOf i))) in
-    let t : decoded (o .hdr) .len ≡ saidNow (turnOf i) .len = ap (λ (x : VsockPacketHdr). x .len) (header-tells .said i o says k v) in
     let a = asked-at-most i d in
     let credit : creditOf (i .conn) ≡ alloc - (sent - fwd) = rw (ea, es, ef) (credit-is-free-space alloc sent fwd h l m) in
     let w : when (readsOf (i .conn) (i .present)) (askedOf (i .conn) (length (i .buf))) 0 ≤ creditOf (i .conn) =
@@ -166,7 +168,8 @@ data-fits-peer i o alloc sent fwd says k v h l m ea es ef =
       free = omega arith;
       supplied = omega (arith, p .supplied);
       fits = omega (arith, p .in-buffer);
-      filled = every-turn-leaves i o says k .buf ∙ ap (λ (n : ℕ). take n (i .read) ++ drop n (i .buf)) (sym t);
+      filled = every-turn-leaves i o says k .buf;
+      told = λ v. ap (λ (x : VsockPacketHdr). x .len) (header-tells .said i o says k v);
     }
 
 -- ---- soundness
@@ -293,11 +296,6 @@ took-notified i o says =
     (true-or-false (flushesNow i)))
 
 -- ---- what a call would offer or ask for
-
--- a door is passed where its number is 0
-open-means : (a : Answer) (t : Told) → t ≡ told a → Exactly (isDone a ≡ true) (t .number ≡ 0)
-unfolding isDone
-open-means a t e = rw e (equal-means (told a .number) 0)
 
 open-is : (a : Answer) (t : Told) → t ≡ told a → isDone a ≡ eqb (t .number) 0
 unfolding isDone

@@ -19,7 +19,7 @@ use Rattle.packet.specs.Uapi.{opRequest, opShutdown}
 use Rattle.txbuf.specs.Record.{usedOf}
 use Rattle.txbuf.specs.Flush.{firstPiece, secondPiece}
 use Rattle.txbuf.specs.Means.{usesSecond}
-use Rattle.csm.specs.Said.{Reads, opDue, tellsNow}
+use Rattle.csm.specs.Said.{Reads, opDue, tellsNow, saidNow}
 use Rattle.csm.specs.declared.timer.Timer.the-variants.{At}
 use Rattle.rules.specs.Open.{Opening, ConnLeft, PeerInitSays, LocalInitSays}
 use Rattle.rules.specs.Look.{KillSays}
@@ -29,7 +29,7 @@ use Rattle.rules.specs.Notify.{NotifyIn, NotifyLeft, NotifySays}
 use Rattle.rules.specs.Raw.{RawIn, RawLeft, RawSays}
 use Rattle.rules.specs.Offer.{SendGiven, SendDoorSays, SendWritesSays, SendOfferedSays, RecvGiven, RecvDoorSays, AskedLeft, RecvAskedSays, NotifyDoorSays, NotifyOfferedSays, NotifyNextSays, RawDoorSays, RawOfferedSays}
 use Rattle.rules.specs.Moves.{Numbers}
-use Rattle.rules.specs.Outcomes.{turnOf, HeaderFits}
+use Rattle.rules.specs.Outcomes.{turnOf, Addressed}
 use Rattle.rules.specs.Leaves.{timerNow}
 use Rattle.rules.specs.Answers.{Sound, SoundOver, Writes, askedNow, Flushes}
 use Rattle.rules.specs.declared.record.VsockConnection.{VsockConnection}
@@ -113,17 +113,19 @@ pub record SoundStaysSound : Type 0 where
 
 -- ---- the sender's duty (virtio 1.2, 5.10.6.3)
 
--- a packet that is handed out is no longer than the guest's free space, by true counts of which the record has the last 32 bits, as long as no more is
--- outstanding than the guest allocated; and its len is the number of bytes that filled the buffer: so many were supplied, so many fit, the rest stays
+-- what a turn says is no longer than the guest's free space, by true counts of which the record has the last 32 bits, as long as no more is outstanding
+-- than the guest allocated; its len is the number of bytes that filled the buffer: so many were supplied, so many fit, the rest stays; and the header
+-- that is handed out has it
 pub record FitsPeer (i : RecvIn) (o : RecvLeft) (alloc sent fwd : ℕ) : Type 0 where
-  pub free : decoded (o .hdr) .len ≤ alloc - (sent - fwd)
-  pub supplied : decoded (o .hdr) .len ≤ length (i .read)
-  pub fits : decoded (o .hdr) .len ≤ length (i .buf)
-  pub filled : o .buf ≡ take (decoded (o .hdr) .len) (i .read) ++ drop (decoded (o .hdr) .len) (i .buf)
+  pub free : saidNow (turnOf i) .len ≤ alloc - (sent - fwd)
+  pub supplied : saidNow (turnOf i) .len ≤ length (i .read)
+  pub fits : saidNow (turnOf i) .len ≤ length (i .buf)
+  pub filled : o .buf ≡ take (saidNow (turnOf i) .len) (i .read) ++ drop (saidNow (turnOf i) .len) (i .buf)
+  pub told : Addressed (i .conn) → decoded (o .hdr) .len ≡ saidNow (turnOf i) .len
 
 abbrev pub DataFitsPeer : Type 0
 DataFitsPeer =
-    (i : RecvIn) (o : RecvLeft) (alloc sent fwd : ℕ) → RecvSays i o → (Refuses (o .answer) → ⊥) → HeaderFits i → alloc < 2 ^ 32 → fwd ≤ sent → sent - fwd ≤ alloc
+    (i : RecvIn) (o : RecvLeft) (alloc sent fwd : ℕ) → RecvSays i o → (Refuses (o .answer) → ⊥) → alloc < 2 ^ 32 → fwd ≤ sent → sent - fwd ≤ alloc
     → i .conn .«peer_buf_alloc» ≡ alloc → i .conn .«rx_cnt» ≡ sent % 2 ^ 32 → i .conn .«peer_fwd_cnt» ≡ fwd % 2 ^ 32 → FitsPeer i o alloc sent fwd
 
 -- ---- what a call would offer or ask for, before the stream has answered: by the door's number, and by the words of the call itself

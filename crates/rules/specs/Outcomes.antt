@@ -1,6 +1,6 @@
 -- What a call does, said a second time: over what it was given and what it left, in 01's words, apart from the definitions that the code follows, so
 -- that a wrong behaviour put into both is refused here. Assumes nothing.
-use Prim.Native.Nat.{ℕ, _+_, _-_, _≤_, _<_}
+use Prim.Native.Nat.{ℕ, _+_, _-_, _^_, _≤_, _<_}
 use mathlib.Core.Path.{_≡_}
 use mathlib.Core.Bool.{Bool, true, false, not, _&&_, _||_}
 use mathlib.Core.List.{List, [], _++_}
@@ -12,8 +12,7 @@ use Rattle.defs.specs.Look.{FlagLeft}
 use Rattle.defs.specs.Promises.{Exactly, Refuses}
 use Rattle.defs.specs.Stream.{counted, failed}
 use Rattle.defs.specs.Wrapping.{wadd, wsub}
-use Rattle.packet.specs.Header.{layout, fields, encoded, decoded}
-use Rattle.packet.specs.Promises.{Fit}
+use Rattle.packet.specs.Header.{encoded, decoded}
 use Rattle.packet.specs.Uapi.{opRw}
 use Rattle.packet.specs.declared.hdr.VsockPacketHdr.{VsockPacketHdr}
 use Rattle.txbuf.specs.Record.{usedOf}
@@ -153,14 +152,16 @@ pub record TurnLeaves (i : RecvIn) (o : RecvLeft) : Type 0 where
 abbrev pub EveryTurnLeaves : Type 0
 EveryTurnLeaves = (i : RecvIn) (o : RecvLeft) → RecvSays i o → (Refuses (o .answer) → ⊥) → TurnLeaves i o
 
--- the fields of that header fit their widths, as those of every record that code holds do
-abbrev pub HeaderFits : RecvIn → Type 0
-HeaderFits i = Fit layout (fields (headerNow (i .conn) (saidNow (turnOf i))))
+-- addresses and count are as wide as the record's types say
+pub record Addressed (c : VsockConnection) : Type 0 where
+  pub cids : (c .«local_cid» < 2 ^ 64) × (c .«peer_cid» < 2 ^ 64)
+  pub ports : (c .«local_port» < 2 ^ 32) × (c .«peer_port» < 2 ^ 32)
+  pub count : c .«fwd_cnt» < 2 ^ 32
 
 -- after answers 0, 7 and 8 the 44 bytes decode to just that; after 7 and 8 with op and len 0
 pub record HeaderTells : Type 0 where
-  pub said : (i : RecvIn) (o : RecvLeft) → RecvSays i o → (Refuses (o .answer) → ⊥) → HeaderFits i → decoded (o .hdr) ≡ headerNow (i .conn) (saidNow (turnOf i))
-  pub blank : (i : RecvIn) (o : RecvLeft) → RecvSays i o → 7 ≤ o .answer .number → HeaderFits i → (decoded (o .hdr) .op ≡ 0) × (decoded (o .hdr) .len ≡ 0)
+  pub said : (i : RecvIn) (o : RecvLeft) → RecvSays i o → (Refuses (o .answer) → ⊥) → Addressed (i .conn) → decoded (o .hdr) ≡ headerNow (i .conn) (saidNow (turnOf i))
+  pub blank : (i : RecvIn) (o : RecvLeft) → RecvSays i o → 7 ≤ o .answer .number → Addressed (i .conn) → (decoded (o .hdr) .op ≡ 0) × (decoded (o .hdr) .len ≡ 0)
 
 -- a header that says nothing: op, len and flags 0
 abbrev pub initialised : VsockConnection → Said → VsockPacketHdr
