@@ -28,6 +28,7 @@ for ((b = 0; done < calls; b++)); do
         exit 1
     fi
     $oracle tally <"$run/rust" >>"$run/tallies"
+    $oracle shrunk <"$run/calls" >>"$run/shrunk"
     done=$((done + n))
     [ "$calls" -le "$batch" ] || echo "compare: $done of $calls calls, $(($(date +%s) - start)) s" >&2
 done
@@ -36,3 +37,4 @@ done
 awk '{ n[$1 " " $2 " " $3 " " $4] += $5 } END { for (k in n) print k, n[k] }' "$run/tallies" | sort -n -k1,1 -k3,3 -k4,4 >$dir/counts
 awk -v seed="$seed" -v s=$(($(date +%s) - start)) \
     '{ all += $5; if ($4 == "R") rust += $5 } END { printf "compare: seed %s, %d calls without a difference in %d s: %d against the Rust, %d refusals against 01\n", seed, all, s, rust, all - rust }' $dir/counts
+awk '{ met += $1; by += $2; both += $3 } END { printf "compare: %d calls met a guest that allocates less than is outstanding, %d of the %d that go by credit\n", met, both, by }' "$run/shrunk"

@@ -1,5 +1,6 @@
 -- The promises of specs/Promises, each by its law. Assumes nothing.
 use mathlib.Core.Path.{refl}
+use Rattle.defs.specs.Choice.{when}
 use Rattle.defs.specs.Credit.{peerAvailCredit, peerNeedsCreditUpdate}
 use Rattle.defs.specs.Edges.{readingE, readingH}
 use Rattle.defs.specs.Promises.{ToldTellsApart, LowestNumber, RecordAnswers, ClockAnswers, RefusedTellsNothing, StreamMeans, RingSizes, LimitsMean, WrapsAround, KeepsPlace, CreditIsFreeSpace, ThresholdTells, EdgesHold}
@@ -48,5 +49,5 @@ pub threshold-tells : ThresholdTells
 threshold-tells = credit.threshold-tells
 
 pub edges-hold : EdgesHold
-unfolding readingE readingH peerAvailCredit peerNeedsCreditUpdate
+unfolding when readingE readingH peerAvailCredit peerNeedsCreditUpdate
 edges-hold = record { e = (refl, (refl, (refl, tt))); h = (refl, tt) }

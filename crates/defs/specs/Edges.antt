@@ -14,4 +14,4 @@ readingE =
 
 -- h: alloc 10, sent 14, peer fwd 2
 unfoldable pub readingH : List Reading
-readingH = (peerAvailCredit 10 14 2 reads 4294967294) ∷ []
+readingH = (peerAvailCredit 10 14 2 reads 0) ∷ []

@@ -105,11 +105,10 @@ pub record KeepsPlace : Type 0 where
   pub sum : (size a b : ℕ) → isRingSize size ≡ true → wadd a b % size ≡ (a + b) % size
   pub difference : (size a b : ℕ) → isRingSize size ≡ true → b < 2 ^ 32 → (wsub a b + b) % size ≡ a % size
 
--- the standard's formula: with sent and fwd the true counts, it gives the free space while no more is outstanding than was allocated
+-- the standard's formula over true counts: credit is the free space, and 0 where an allocation shrank below what is outstanding (a difference stops at 0)
 abbrev pub CreditIsFreeSpace : Type 0
 CreditIsFreeSpace =
-    (alloc sent fwd : ℕ) → alloc < 2 ^ 32 → fwd ≤ sent → sent - fwd ≤ alloc
-    → peerAvailCredit alloc (sent % 2 ^ 32) (fwd % 2 ^ 32) ≡ alloc - (sent - fwd)
+    (alloc sent fwd : ℕ) → fwd ≤ sent → sent - fwd < 2 ^ 32 → peerAvailCredit alloc (sent % 2 ^ 32) (fwd % 2 ^ 32) ≡ alloc - (sent - fwd)
 
 -- the threshold rule over true counts: the guest was told `told` and has sent at least `fwd`, so by what it knows at most R - (fwd - told) bytes are
 -- free. An update is set exactly when that is below T; past R, which only a guest that heeds no credit reaches, none is (reading e, 17)

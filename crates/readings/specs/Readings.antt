@@ -45,7 +45,7 @@ abbrev pub EachLetter : Type 0
 EachLetter =
     counted lettered
     ≡ ("a", 2) ∷ ("bcd", 3) ∷ ("e", 3) ∷ ("f", 4) ∷ ("h", 1)
-    ∷ ("a", 2) ∷ ("bcd", 7) ∷ ("e", 3) ∷ ("f", 6) ∷ ("g", 2) ∷ ("h", 1) ∷ ("i", 2)
+    ∷ ("a", 2) ∷ ("bcd", 7) ∷ ("e", 3) ∷ ("f", 6) ∷ ("g", 2) ∷ ("h", 3) ∷ ("i", 2)
     ∷ ("i", 2) ∷ ("j", 5) ∷ []
 
 -- none is left out, and none stands for another: the letters with their numbers, and the readings of each crate in turn

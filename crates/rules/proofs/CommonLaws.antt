@@ -2,12 +2,12 @@
 use Prim.Native.Nat.{ℕ, _+_, _-_, _≤_}
 use mathlib.Core.Path.{_≡_, refl, sym, ap, subst, _∙_}
 use mathlib.Core.Logic.{⊎-elim}
-use mathlib.Core.Bool.{Bool, true, false, _&&_}
-use mathlib.Core.List.{List, []}
+use mathlib.Core.Bool.{Bool, true, false, not, _&&_}
+use mathlib.Core.List.{List, [], _∷_}
 use native.Mathlib.Omega.{arith}
 use lib.Dec.{leb, eqb}
 use lib.ListN.{length, take}
-use borrow.Author.Tests.{ltb-false, eqb-true, not-true}
+use borrow.Author.Tests.{ltb-false, eqb-true, eqb-false, eq-eqb, not-true}
 use Rattle.defs.specs.Answer.{Told, told, isDone, whenDone}
 use Rattle.defs.specs.Choice.{when}
 use Rattle.defs.specs.Stream.{failed, readCounted}
@@ -17,7 +17,7 @@ use Rattle.defs.specs.declared.answer.Answer.the-variants.{Done}
 use Rattle.defs.specs.declared.stream.StreamAnswer.{StreamAnswer}
 use Rattle.defs.specs.declared.stream.StreamAnswers.{StreamAnswers}
 use Rattle.defs.specs.declared.stream.ReadAnswer.{ReadAnswer}
-use Rattle.defs.proofs.Basics.{true-or-false, both, neither}
+use Rattle.defs.proofs.Basics.{never, true-or-false, both, neither, and-false}
 use Rattle.defs.proofs.AnswerLaws.{number-zero, is-done, when-not-done}
 use Rattle.defs.proofs.LadderLaws.{record-passed, lowest-refused, behind-two, left-alike}
 use Rattle.defs.specs.Promises.{Exactly}
@@ -25,6 +25,7 @@ use Rattle.defs.proofs.MeansLaws.{not-held, same-means, and-means, equal-means}
 use Rattle.defs.proofs.ChoiceLaws.{when-true, when-false, when-holds}
 use Rattle.defs.proofs.Promises.{told-tells-apart, credit-is-free-space}
 use Rattle.packet.specs.Header.{decoded}
+use Rattle.packet.specs.Uapi.{opRequest, opResponse, opRst, opShutdown, opRw, opCreditUpdate, opCreditRequest}
 use Rattle.packet.specs.declared.hdr.VsockPacketHdr.{VsockPacketHdr}
 use Rattle.txbuf.specs.Flush.{FlushLeft, flushAnswer, firstPiece, secondPiece}
 use Rattle.txbuf.specs.Record.{usedOf}
@@ -34,8 +35,9 @@ use Rattle.txbuf.proofs.RecordLaws.{used-after, used-advanced}
 use Rattle.txbuf.proofs.RingLaws.{written-length}
 use Rattle.txbuf.proofs.Promises.{unreached-is-ignored as ring-ignores}
 use Rattle.txbuf.proofs.AnswerLaws.{flush-told}
+use Rattle.csm.specs.Means.{servesData, waitsForData}
 use Rattle.csm.specs.Row.{rowOf}
-use Rattle.csm.specs.Said.{Said, saidNow}
+use Rattle.csm.specs.Said.{Turn, Said, firstDue, opDue, saidNow, brings, ends, fails, DataFirst}
 use Rattle.csm.specs.declared.turn.RxStep.{RxStep}
 use Rattle.csm.specs.declared.pending.PendingRxSet.{PendingRxSet}
 use Rattle.csm.specs.declared.state.ConnState.{ConnState}
@@ -51,12 +53,12 @@ use Rattle.rules.specs.Answers.{InRange, Sound, SoundOver, askedNow}
 use Rattle.rules.specs.Moves.{Account, account, Numbers, sendTaken, notifyTaken}
 use Rattle.rules.specs.Leaves.{sendTook, notifyTook, sendAccepted, dataStays, flushesNow, SendLeaves, NotifyLeaves}
 use Rattle.rules.specs.Offer.{AskedLeft, sendWrites, sendOffered, recvReads, recvAsked, notifyFlushes, notifyFirst, notifySecond, rawOffered}
-use Rattle.rules.specs.Common.{asSent, asRead, OffersMean, SoundStaysSound, sentWith, readWith, notifiedWith, rawWith, withSecond, UnreachedIsIgnored, DataFitsPeer}
+use Rattle.rules.specs.Common.{asSent, asRead, OffersMean, SoundStaysSound, sentWith, readWith, notifiedWith, rawWith, withSecond, UnreachedIsIgnored, TrueCounts, DataFitsPeer, NoRoomAsks}
 use Rattle.rules.specs.Open.{Opening, ConnLeft, freshOf, openAnswer, peerInitOf, localInitOf}
 use Rattle.rules.specs.declared.record.Settings.{Settings}
 use Rattle.rules.specs.declared.record.VsockConnection.{VsockConnection}
 use Rattle.rules.proofs.AnswerLaws.{writes-means, due-means, notify-told}
-use Rattle.rules.proofs.CallLaws.{some, not-refused, header-tells, every-turn-leaves, send-number, plan-written, stays-out, met}
+use Rattle.rules.proofs.CallLaws.{some, not-refused, header-tells, every-turn-leaves, every-poll-polls, refused-tells-nothing, send-number, plan-written, stays-out, met}
 use Rattle.rules.proofs.ChangeLaws.{made-done, due-now, left, within, every-send-leaves, every-notify-leaves}
 use Rattle.rules.proofs.MovesLaws.{receive-keeps, kill-keeps}
 use Rattle.rules.proofs.RecordLaws.{settings-mean}
@@ -154,14 +156,19 @@ unreached-is-ignored = record {
 
 -- ---- the sender's duty
 
+-- credit is the free space by true counts
+credit-free : (c : VsockConnection) (sent fwd : ℕ) → TrueCounts c sent fwd → creditOf c ≡ c .«peer_buf_alloc» - (sent - fwd)
+unfolding creditOf
+credit-free c sent fwd t = rw (t .count, t .heard) (credit-is-free-space (c .«peer_buf_alloc») sent fwd (t .forwarded) (t .outstanding))
+
 pub data-fits-peer : DataFitsPeer
 unfolding creditOf
-data-fits-peer i o alloc sent fwd says k h l m ea es ef =
+data-fits-peer i o sent fwd says k t =
     let d = not-refused i o says k in
     let p = passed i d in
     let s : saidNow (turnOf i) .len ≡ saidBy i .count = ap (λ (s : Said). s .len) (sym (says-first-pending (turnOf i))) in
     let a = asked-at-most i d in
-    let credit : creditOf (i .conn) ≡ alloc - (sent - fwd) = rw (ea, es, ef) (credit-is-free-space alloc sent fwd h l m) in
+    let credit = credit-free (i .conn) sent fwd t in
     let w : when (readsOf (i .conn) (i .present)) (askedOf (i .conn) (length (i .buf))) 0 ≤ creditOf (i .conn) =
     when-holds (λ (x : ℕ). x ≤ creditOf (i .conn)) (readsOf (i .conn) (i .present)) _ _ (λ t. omega arith) (λ t. omega arith) in
     record {
@@ -171,6 +178,51 @@ data-fits-peer i o alloc sent fwd says k h l m ea es ef =
       filled = every-turn-leaves i o says k .buf;
       told = λ v. ap (λ (x : VsockPacketHdr). x .len) (header-tells .said i o says k v);
     }
+
+-- without room credit is 0
+no-room : (c : VsockConnection) (sent fwd : ℕ) → TrueCounts c sent fwd → c .«peer_buf_alloc» ≤ sent - fwd → creditOf c ≡ 0
+no-room c sent fwd t l = let e = credit-free c sent fwd t in omega arith
+
+-- the rows of data stand behind the credit request
+silent-by : (r s q w serves none absent bytes end fail update : Bool) → none ≡ true
+    → firstDue ((r, opRst) ∷ (s, opResponse) ∷ (q, opRequest) ∷ (w && not serves, opRst) ∷ (w && none, opCreditRequest) ∷ (w && absent, 0) ∷ (w && bytes, opRw)
+    ∷ (w && end, opShutdown) ∷ (w && fail, opRst) ∷ (update, opCreditUpdate) ∷ []) ≡ opRw → ⊥
+unfolding when
+silent-by true s q w serves none absent bytes end fail update n e = let z : _≡_ {A = ℕ} 3 5 = e in omega arith
+silent-by false true q w serves none absent bytes end fail update n e = let z : _≡_ {A = ℕ} 2 5 = e in omega arith
+silent-by false false true w serves none absent bytes end fail update n e = let z : _≡_ {A = ℕ} 1 5 = e in omega arith
+silent-by false false false true false none absent bytes end fail update n e = let z : _≡_ {A = ℕ} 3 5 = e in omega arith
+silent-by false false false true true true absent bytes end fail update n e = let z : _≡_ {A = ℕ} 7 5 = e in omega arith
+silent-by false false false true true false absent bytes end fail update n e = never n
+silent-by false false false false serves none absent bytes end fail true n e = let z : _≡_ {A = ℕ} 6 5 = e in omega arith
+silent-by false false false false serves none absent bytes end fail false n e = let z : _≡_ {A = ℕ} 0 5 = e in omega arith
+
+-- without credit no turn says data
+says-no-data : (t : Turn) → t .noCredit ≡ true → opDue t ≡ opRw → ⊥
+says-no-data t =
+    let p = t .pending in
+    silent-by (p .rst) (p .response) (p .request) (p .rw) (servesData (t .state)) (t .noCredit) (not (t .present)) (brings (t .answer)) (ends (t .answer))
+    (fails (t .answer)) (p .«credit_update»)
+
+-- data that is due becomes a request for credit
+says-request : (t : Turn) → t .noCredit ≡ true → DataFirst t → opDue t ≡ opCreditRequest
+unfolding when
+says-request t n d = rw (d .0, d .1, d .2, d .3, d .4, n)
+
+pub no-room-asks : NoRoomAsks
+unfolding creditOf
+no-room-asks = record {
+  recv = λ i o sent fwd says k v t l.
+      let n = eq-eqb _ 0 (no-room (i .conn) sent fwd t l) in
+      let h : decoded (o .hdr) .op ≡ opDue (turnOf i) = ap (λ (x : VsockPacketHdr). x .op) (header-tells .said i o says k v) in
+      record { silent = λ e. says-no-data (turnOf i) n (sym h ∙ e); asks = λ d. h ∙ says-request (turnOf i) n d };
+  polled = λ c o sent fwd says t l.
+      ⊎-elim
+      (λ (e : eqb (o .answer .number) 0 ≡ true).
+      every-poll-polls c o says (eqb-true _ 0 e) .readable ∙ rw (no-room c sent fwd t l) (and-false (waitsForData (c .state))))
+      (λ (e : eqb (o .answer .number) 0 ≡ false). refused-tells-nothing .polled c o says (eqb-false _ 0 e) .0)
+      (true-or-false (eqb (o .answer .number) 0));
+}
 
 -- ---- soundness
 

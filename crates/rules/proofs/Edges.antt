@@ -13,6 +13,7 @@ use Rattle.txbuf.specs.Push.{runs, pushDone}
 use Rattle.txbuf.specs.Flush.{firstPiece, secondPiece, takenBy, overBy, endsBy, flushCount, flushOver, flushAnswer, flushDone, flushKept, flushOf}
 use Rattle.csm.specs.Turn.{turnStep, turnReads}
 use Rattle.rules.specs.Record.{okSettings, soundConn, soundOver, quiet, creditOf, withState, killedOf}
+use Rattle.rules.specs.Look.{evSetOf}
 use Rattle.rules.specs.Notify.{seenOf, absorbed, settledOf, drainedOf, notifyDoor, notifyAnswer, notifyDone, notifyKept, notifyOf}
 use Rattle.rules.specs.Offer.{notifyFlushes, notifyFirst, notifySecond}
 use Rattle.rules.specs.Open.{freshOf, openAnswer, peerInitOf}
@@ -22,13 +23,13 @@ use Rattle.rules.specs.Edges.{readingA, readingBCD, readingE, readingF, 
 use Rattle.rules.specs.Promises.{EdgesHold}
 
 pub edges-hold : EdgesHold
-unfolding when isDone whenDone isRingSize isThreshold isTimeout isClock isPacketLength isHeaderLength doorOf lateOf lowestOf copied peerAvailCredit peerNeedsCreditUpdate encoded decoded soundRecord soundOf heldFrom held recordAnswer runs pushDone okSettings soundConn soundOver quiet creditOf withState killedOf freshOf openAnswer peerInitOf turnStep spokenOf receivedOf headerOf recvDoor turnReads recvRefusal recvDone recvKept recvOf heardOf movedOf updatedOf onData ruleOf goesOf planOf killsOf sendDoorOf sendLate carried sendDoor takenBy overBy endsBy flushCount flushOver flushAnswer flushDone flushKept flushOf seenOf absorbed settledOf drainedOf notifyDoor notifyAnswer notifyDone notifyKept notifyOf firstPiece secondPiece notifyFlushes notifyFirst notifySecond clockAnswer flagOf sendAnswer sendDone sendKept sendOf readingA readingBCD readingE readingF readingG readingH readingI
+unfolding when isDone whenDone isRingSize isThreshold isTimeout isClock isPacketLength isHeaderLength doorOf lateOf lowestOf copied peerAvailCredit peerNeedsCreditUpdate encoded decoded soundRecord soundOf heldFrom held recordAnswer runs pushDone okSettings soundConn soundOver quiet creditOf withState killedOf evSetOf freshOf openAnswer peerInitOf turnStep spokenOf receivedOf headerOf recvDoor turnReads recvRefusal recvDone recvKept recvOf heardOf movedOf updatedOf onData ruleOf goesOf planOf killsOf sendDoorOf sendLate carried sendDoor takenBy overBy endsBy flushCount flushOver flushAnswer flushDone flushKept flushOf seenOf absorbed settledOf drainedOf notifyDoor notifyAnswer notifyDone notifyKept notifyOf firstPiece secondPiece notifyFlushes notifyFirst notifySecond clockAnswer flagOf sendAnswer sendDone sendKept sendOf readingA readingBCD readingE readingF readingG readingH readingI
 edges-hold = record {
   a = (refl, (refl, tt));
   bcd = (refl, (refl, (refl, (refl, (refl, (refl, (refl, tt)))))));
   e = (refl, (refl, (refl, tt)));
   f = (refl, (refl, (refl, (refl, (refl, (refl, tt))))));
   g = (refl, (refl, tt));
-  h = (refl, tt);
+  h = (refl, (refl, (refl, tt)));
   i = (refl, (refl, tt));
 }

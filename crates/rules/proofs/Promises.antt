@@ -3,7 +3,7 @@ use Rattle.rules.specs.Promises.{SendMoves, NotifyMoves, SendCountedOff,
 use Rattle.rules.specs.Answers.{SoundMeans, OpenAnswers, LookAnswers, DoorAnswers, SendAnswers, RecvAnswers, NotifyAnswers, RawAnswers}
 use Rattle.rules.specs.Outcomes.{RefusalsChangeNothing, EverySendHears, EverySendAccepts, UpdateIsDue, EveryTurnLeaves, HeaderTells, SevenAndEightLeave, EveryKillKills, EveryPollPolls, ExpiryMeans, LooksTell, RefusedTellsNothing}
 use Rattle.rules.specs.Leaves.{EverySendLeaves, EveryNotifyLeaves, OpeningMeans, RefusedIsZero, EveryRawLeaves}
-use Rattle.rules.specs.Common.{TimersArm, LastToldMoves, UnreachedIsIgnored, SoundStaysSound, OffersMean, DataFitsPeer}
+use Rattle.rules.specs.Common.{TimersArm, LastToldMoves, UnreachedIsIgnored, SoundStaysSound, OffersMean, DataFitsPeer, NoRoomAsks}
 use Rattle.rules.specs.Runs.{EveryRunForwards, CutsDoNotMatter, FlagsOnlyGrow, Drains}
 use Rattle.rules.specs.Stories.{StoriesHold}
 use Rattle.rules.proofs.Edges as edges
@@ -129,6 +129,9 @@ refused-tells-nothing = outcomes.refused-tells-nothing
 
 pub data-fits-peer : DataFitsPeer
 data-fits-peer = common.data-fits-peer
+
+pub no-room-asks : NoRoomAsks
+no-room-asks = common.no-room-asks
 
 pub timers-arm : TimersArm
 timers-arm = leaves.timers-arm

@@ -15,14 +15,14 @@ use Rattle.defs.specs.declared.stream.ReadAnswer.the-variants.{WouldBlock as Re
 use Rattle.defs.specs.declared.stream.StreamAnswers.{StreamAnswers}
 use Rattle.defs.specs.declared.stream.ReadAnswer.{ReadAnswer}
 use Rattle.packet.specs.Header.{decoded}
-use Rattle.packet.specs.Uapi.{opRequest, opShutdown}
+use Rattle.packet.specs.Uapi.{opRequest, opShutdown, opRw, opCreditRequest}
 use Rattle.txbuf.specs.Record.{usedOf}
 use Rattle.txbuf.specs.Flush.{firstPiece, secondPiece}
 use Rattle.txbuf.specs.Means.{usesSecond}
-use Rattle.csm.specs.Said.{Reads, opDue, tellsNow, saidNow}
+use Rattle.csm.specs.Said.{DataFirst, Reads, opDue, tellsNow, saidNow}
 use Rattle.csm.specs.declared.timer.Timer.the-variants.{At}
 use Rattle.rules.specs.Open.{Opening, ConnLeft, PeerInitSays, LocalInitSays}
-use Rattle.rules.specs.Look.{KillSays}
+use Rattle.rules.specs.Look.{KillSays, EvSetLeft, EvSetSays}
 use Rattle.rules.specs.Receive.{RecvIn, RecvLeft, RecvSays}
 use Rattle.rules.specs.Send.{SendIn, SendLeft, SendSays}
 use Rattle.rules.specs.Notify.{NotifyIn, NotifyLeft, NotifySays}
@@ -113,20 +113,36 @@ pub record SoundStaysSound : Type 0 where
 
 -- ---- the sender's duty (virtio 1.2, 5.10.6.3)
 
--- what a turn says is no longer than the guest's free space, by true counts of which the record has the last 32 bits, as long as no more is outstanding
--- than the guest allocated; its len is the number of bytes that filled the buffer: so many were supplied, so many fit, the rest stays; and the header
--- that is handed out has it
-pub record FitsPeer (i : RecvIn) (o : RecvLeft) (alloc sent fwd : ℕ) : Type 0 where
-  pub free : saidNow (turnOf i) .len ≤ alloc - (sent - fwd)
+-- true counts of what was sent and forwarded, of which the record has the last 32 bits, with less than 2^32 outstanding
+pub record TrueCounts (c : VsockConnection) (sent fwd : ℕ) : Type 0 where
+  pub forwarded : fwd ≤ sent
+  pub outstanding : sent - fwd < 2 ^ 32
+  pub count : c .«rx_cnt» ≡ sent % 2 ^ 32
+  pub heard : c .«peer_fwd_cnt» ≡ fwd % 2 ^ 32
+
+-- what a turn says is no longer than the guest's free space by the standard's formula, 0 where the guest allocates less than is outstanding; its len is
+-- the number of bytes that filled the buffer: so many were supplied, so many fit, the rest stays; and the header that is handed out has it
+pub record FitsPeer (i : RecvIn) (o : RecvLeft) (sent fwd : ℕ) : Type 0 where
+  pub free : saidNow (turnOf i) .len ≤ i .conn .«peer_buf_alloc» - (sent - fwd)
   pub supplied : saidNow (turnOf i) .len ≤ length (i .read)
   pub fits : saidNow (turnOf i) .len ≤ length (i .buf)
   pub filled : o .buf ≡ take (saidNow (turnOf i) .len) (i .read) ++ drop (saidNow (turnOf i) .len) (i .buf)
   pub told : Addressed (i .conn) → decoded (o .hdr) .len ≡ saidNow (turnOf i) .len
 
 abbrev pub DataFitsPeer : Type 0
-DataFitsPeer =
-    (i : RecvIn) (o : RecvLeft) (alloc sent fwd : ℕ) → RecvSays i o → (Refuses (o .answer) → ⊥) → alloc < 2 ^ 32 → fwd ≤ sent → sent - fwd ≤ alloc
-    → i .conn .«peer_buf_alloc» ≡ alloc → i .conn .«rx_cnt» ≡ sent % 2 ^ 32 → i .conn .«peer_fwd_cnt» ≡ fwd % 2 ^ 32 → FitsPeer i o alloc sent fwd
+DataFitsPeer = (i : RecvIn) (o : RecvLeft) (sent fwd : ℕ) → RecvSays i o → (Refuses (o .answer) → ⊥) → TrueCounts (i .conn) sent fwd → FitsPeer i o sent fwd
+
+-- 2026-03: to a guest that allocates no more than is outstanding no packet with data goes out; data that is due becomes a CREDIT_REQUEST
+pub record AsksForRoom (i : RecvIn) (o : RecvLeft) : Type 0 where
+  pub silent : decoded (o .hdr) .op ≡ opRw → ⊥
+  pub asks : DataFirst (turnOf i) → decoded (o .hdr) .op ≡ opCreditRequest
+
+-- and the polled events are without "readable"
+pub record NoRoomAsks : Type 0 where
+  pub recv : (i : RecvIn) (o : RecvLeft) (sent fwd : ℕ) → RecvSays i o → (Refuses (o .answer) → ⊥) → Addressed (i .conn) → TrueCounts (i .conn) sent fwd
+      → i .conn .«peer_buf_alloc» ≤ sent - fwd → AsksForRoom i o
+  pub polled : (c : VsockConnection) (o : EvSetLeft) (sent fwd : ℕ) → EvSetSays c o → TrueCounts c sent fwd → c .«peer_buf_alloc» ≤ sent - fwd
+      → o .readable ≡ false
 
 -- ---- what a call would offer or ask for, before the stream has answered: by the door's number, and by the words of the call itself
 

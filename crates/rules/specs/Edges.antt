@@ -17,12 +17,13 @@ use Rattle.txbuf.specs.Record.{held}
 use Rattle.txbuf.specs.Edges.{places, untaken, ten, eleven}
 use Rattle.txbuf.specs.declared.record.TxBuf.{TxBuf}
 use Rattle.csm.specs.Pending.{none}
+use Rattle.csm.specs.declared.pending.PendingRxSet.{PendingRxSet}
 use Rattle.csm.specs.declared.timer.Timer.{Timer}
 use Rattle.csm.specs.declared.timer.Timer.the-variants.{Unset, At}
 use Rattle.csm.specs.declared.state.ConnState.the-variants.{Established, LocalClosed, Killed}
-use Rattle.rules.specs.Record.{creditOf}
+use Rattle.rules.specs.Record.{creditOf, withState}
 use Rattle.rules.specs.Open.{freshOf, peerInitOf, Opening}
-use Rattle.rules.specs.Look.{hasExpiredOf}
+use Rattle.rules.specs.Look.{hasExpiredOf, evSetOf}
 use Rattle.rules.specs.Notify.{NotifyLeft, notifyOf}
 use Rattle.rules.specs.Offer.{notifyFirst, notifySecond}
 use Rattle.rules.specs.Receive.{RecvLeft, recvOf}
@@ -101,9 +102,13 @@ owes n = brings (afterA .conn) (replicate 16 0) n (replicate n 1) .conn .«pendi
 unfoldable pub readingE : List Reading
 readingE = (owes 12 reads false) ∷ (owes 13 reads true) ∷ (owes 17 reads false) ∷ []
 
+-- data is to be read
+abbrev toRead : PendingRxSet
+toRead = record { request = false; response = false; rst = false; rw = true; «credit_update» = false }
+
 -- established, data to be read, and so much credit
 abbrev reader : ℕ → VsockConnection
-reader alloc = freshOf (opening alloc) Established (record { request = false; response = false; rst = false; rw = true; «credit_update» = false })
+reader alloc = freshOf (opening alloc) Established toRead
 
 -- g: credit 1, buffer of 0 bytes, read answer 0: LocalClosed. Credit 0, no buffer: CREDIT_REQUEST
 unfoldable pub readingG : List Reading
@@ -156,8 +161,16 @@ readingF =
     ∷ []
 
 -- h: alloc 10, sent 14, peer fwd 2
+abbrev shrunk : VsockConnection
+shrunk = standing (ring 0) 10 14 2 Unset
+
+-- h: no credit; data that is to be read becomes a CREDIT_REQUEST; and none is polled for
 unfoldable pub readingH : List Reading
-readingH = (creditOf (standing (ring 0) 10 14 2 Unset) reads 4294967294) ∷ []
+readingH =
+    (creditOf shrunk reads 0)
+    ∷ (decoded (turn (withState shrunk Established Unset toRead) true (ReadCount 0) .hdr) .op reads opCreditRequest)
+    ∷ (evSetOf shrunk true reads record { answer = told Done; readable = false; writable = false })
+    ∷ []
 
 -- i: a timer of 500 has expired at 500, and not before
 abbrev expired : ℕ → FlagLeft

@@ -15,6 +15,7 @@ use packet::uapi;
 use text::named;
 use text::number;
 use text::say;
+use text::yes;
 
 // The first receive of a guest-opened connection: its header, whole.
 pub fn reading_a() {
@@ -134,8 +135,19 @@ fn seen(conn: VsockConnection) -> VsockConnection {
     next
 }
 
-// The credit at alloc 10, sent 14, peer fwd 2.
+// Alloc 10, sent 14, peer fwd 2: the credit, a turn with data to be read, and the polled events.
 pub fn reading_h() {
-    named(b"h", defs::peer_avail_credit(10, 14, 2) as u64);
+    let mut hdr = [0u8; VSOCK_PKT_HDR_SIZE];
+    let mut conn = established(10);
+    conn.rx_cnt = 14;
+    conn.peer_fwd_cnt = 2;
+    let credit = defs::peer_avail_credit(conn.peer_buf_alloc, conn.rx_cnt, conn.peer_fwd_cnt);
+    named(b"h credit", credit as u64);
+    turn(seen(conn), &mut hdr, true, ReadAnswer::Count(0));
+    say(b",");
+    say_op(&hdr);
+    let polled = connection::get_polled_evset(conn);
+    say(b", readable");
+    yes(polled.readable);
     say(b"\n");
 }

@@ -168,6 +168,11 @@ fn readings(say: &mut impl FnMut(String) -> Result<()>) -> Result<()> {
     say(format!(
         "h: polls for data {in_event}; op and len of a read of 20 {said:?}"
     ))?;
+    h.peer_fwd_cnt = 15;
+    let said = recv(&mut rust(&h), &mut [0; 20], Answer::Count(11));
+    say(format!(
+        "h, but more forwarded than sent: op and len of a read of 11 {said:?}"
+    ))?;
     let mut k = conn(State::Established);
     k.ring.head = 1;
     for flags in [&[3][..], &[1, 2]] {

@@ -25,6 +25,7 @@ const USAGE: &str = "usage: oracle COMMAND
   sized OVER MOST CALLS <calls    keeps the first calls whose bytes are over one number and at most another
   tally <replies                  counts replies by entry, answer and mark
   states <calls                   counts a connection's compared calls by state
+  shrunk <calls                   counts those that meet an allocation below what is outstanding
   show calls|replies <frames      prints them
   differ CALLS REPLIES OTHERS     prints the first call whose replies differ
   beyond                          what the Rust does where docs/DIFFERENCES.md says that it differs";
@@ -38,6 +39,7 @@ fn main() -> Result<()> {
         ["gen", seed, batch, calls] => gen(number(seed), number(batch), number(calls), output)?,
         ["run"] => run(input, output)?,
         ["states"] => states(input, output)?,
+        ["shrunk"] => shrunk(input, output)?,
         ["show", what] => {
             while let Some(frame) = Frame::read(input)? {
                 let text = match what {
@@ -137,6 +139,26 @@ fn states(input: &mut impl Read, output: &mut impl Write) -> Result<()> {
     counts
         .iter()
         .try_for_each(|(state, counts)| writeln!(output, "{state}: {counts:?}"))
+}
+
+/// How many of a connection's compared calls meet a guest that allocates less than is outstanding; how
+/// many go by credit; and how many do both.
+fn shrunk(input: &mut impl Read, output: &mut impl Write) -> Result<()> {
+    let (mut met, mut by_credit, mut both) = (0u64, 0u64, 0u64);
+    while let Some(call) = Frame::read(input)? {
+        let conn = record::Conn::read(&call);
+        let goes = match call.entry() {
+            _ if call.u8(at::MARK) != frame::BY_RUST => continue,
+            entries::RECV_PKT | entries::RECV_ASKED => conn.reads(),
+            entries::GET_POLLED_EVSET => conn.polls(),
+            entries::SEND_PKT..=entries::RAW_ASKED => false,
+            _ => continue,
+        };
+        met += conn.is_shrunk() as u64;
+        by_credit += goes as u64;
+        both += (goes && conn.is_shrunk()) as u64;
+    }
+    writeln!(output, "{met} {by_credit} {both}")
 }
 
 /// The first call whose replies differ.

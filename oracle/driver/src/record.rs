@@ -156,9 +156,30 @@ impl Conn {
         frame.set_u8(at::PENDING, self.pending);
     }
 
+    /// What was sent and is not yet forwarded at the guest.
+    pub fn outstanding(&self) -> u32 {
+        self.rx_cnt.wrapping_sub(self.peer_fwd_cnt)
+    }
+
     pub fn credit(&self) -> u32 {
-        let outstanding = self.rx_cnt.wrapping_sub(self.peer_fwd_cnt);
-        self.peer_buf_alloc.wrapping_sub(outstanding)
+        self.peer_buf_alloc.saturating_sub(self.outstanding())
+    }
+
+    /// The guest allocates less than is outstanding.
+    pub fn is_shrunk(&self) -> bool {
+        self.peer_buf_alloc < self.outstanding()
+    }
+
+    /// Data is what a turn comes to first, in a state that gives it.
+    pub fn reads(&self) -> bool {
+        let gives = matches!(self.state, State::Established | State::PeerClosed(false, _));
+        gives && self.pending & 15 == 8
+    }
+
+    /// The state is one in which data is polled for.
+    pub fn polls(&self) -> bool {
+        let closed = matches!(self.state, State::LocalClosed | State::PeerClosed(true, _));
+        !closed && self.state != State::Killed
     }
 
     pub fn has_settings(&self) -> bool {

@@ -27,7 +27,7 @@ impl Maker {
         };
         let rx_cnt = self.counter(size);
         let peer_fwd_cnt = self.counter(size);
-        let credit = self.credit();
+        let peer_buf_alloc = self.alloc(rx_cnt.wrapping_sub(peer_fwd_cnt));
         let late = [0, 1, MAX_CLOCK_MS, MAX_CLOCK_MS + MAX_TIMEOUT_MS, u64::MAX];
         let expiry = match self.below(8) {
             0..4 => None,
@@ -46,7 +46,7 @@ impl Maker {
             local_port: self.counter(size),
             peer_port: self.counter(size),
             fwd_cnt,
-            peer_buf_alloc: credit.wrapping_add(rx_cnt.wrapping_sub(peer_fwd_cnt)),
+            peer_buf_alloc,
             peer_fwd_cnt,
             rx_cnt,
             last_fwd_cnt_to_peer: fwd_cnt.wrapping_sub(ahead),
@@ -94,6 +94,15 @@ impl Maker {
         match self.one_in(2) {
             true => self.length(u32::MAX as u64) as u32,
             false => self.pick(&[0, 0, 1, 2, 7, 40, most - 1, most, most + 1, u32::MAX - 1]),
+        }
+    }
+
+    /// What the guest allocates at so much outstanding: with some room, just that, or shrunk below it.
+    pub(super) fn alloc(&mut self, outstanding: u32) -> u32 {
+        match self.below(16) {
+            0 => outstanding,
+            1..5 => outstanding - self.length(outstanding as u64) as u32,
+            _ => outstanding.saturating_add(self.credit()),
         }
     }
 

@@ -99,8 +99,7 @@ impl Maker {
             false => self.below(4) as u32,
         };
         let fwd_cnt = self.counter(conn.ring.size);
-        let outstanding = conn.rx_cnt.wrapping_sub(fwd_cnt);
-        let alloc = self.credit().wrapping_add(outstanding);
+        let alloc = self.alloc(conn.rx_cnt.wrapping_sub(fwd_cnt));
         let len = match self.one_in(80) {
             true => self.next() as u32,
             false => len as u32,
