@@ -21,7 +21,7 @@ leaf: ## take apart what the copying function compiles to
 vectors: ## lay the outside vectors of the header out anew, by the C compiler
 	@scripts/alone scripts/header-vectors
 
-compare: ## the port beside the original Rust, call by call; SEED=.. CALLS=.., by default a new seed and 200000
+compare: ## the port beside the Rust, call by call; SEED=.. CALLS=.., by default a new seed and 200000
 	@scripts/alone oracle/compare.sh $(SEED) $(CALLS)
 
 compare-if-at-hand: ## the same where cargo and the Rust are at hand, else a line that says why not

@@ -1,4 +1,4 @@
--- The credit formula and the threshold rule, over true counts. Assumes nothing.
+-- The credit formula and the threshold rule, over true counts; and the two sides of credit. Assumes nothing.
 use Prim.Native.Nat.{ℕ, _-_, _%_, _^_, _<_, _≤_}
 use mathlib.Core.Path.{_≡_}
 use mathlib.Core.Bool.{true}

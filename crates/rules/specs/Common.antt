@@ -113,7 +113,8 @@ pub record SoundStaysSound : Type 0 where
 
 -- ---- the sender's duty (virtio 1.2, 5.10.6.3)
 
--- true counts of what was sent and forwarded, of which the record has the last 32 bits, with less than 2^32 outstanding
+-- true counts of what was sent to the guest and forwarded there, of which the record has the last 32 bits: no more forwarded than sent, and less than
+-- 2^32 outstanding
 pub record TrueCounts (c : VsockConnection) (sent fwd : ℕ) : Type 0 where
   pub forwarded : fwd ≤ sent
   pub outstanding : sent - fwd < 2 ^ 32

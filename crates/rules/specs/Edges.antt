@@ -160,7 +160,7 @@ readingF =
     ∷ (afterF .out reads 12 ∷ 13 ∷ 14 ∷ 15 ∷ 54 ∷ 55 ∷ 56 ∷ 57 ∷ [])
     ∷ []
 
--- h: alloc 10, sent 14, peer fwd 2
+-- alloc 10, sent 14, peer fwd 2
 abbrev shrunk : VsockConnection
 shrunk = standing (ring 0) 10 14 2 Unset
 

@@ -25,7 +25,8 @@ const USAGE: &str = "usage: oracle COMMAND
   sized OVER MOST CALLS <calls    keeps the first calls whose bytes are over one number and at most another
   tally <replies                  counts replies by entry, answer and mark
   states <calls                   counts a connection's compared calls by state
-  shrunk <calls                   counts those that meet an allocation below what is outstanding
+  shrunk <calls                   counts those that meet an allocation below what is outstanding,
+                                  those that go by credit, and those that do both
   show calls|replies <frames      prints them
   differ CALLS REPLIES OTHERS     prints the first call whose replies differ
   beyond                          what the Rust does where docs/DIFFERENCES.md says that it differs";
@@ -146,10 +147,12 @@ fn states(input: &mut impl Read, output: &mut impl Write) -> Result<()> {
 fn shrunk(input: &mut impl Read, output: &mut impl Write) -> Result<()> {
     let (mut met, mut by_credit, mut both) = (0u64, 0u64, 0u64);
     while let Some(call) = Frame::read(input)? {
+        if call.u8(at::MARK) != frame::BY_RUST {
+            continue;
+        }
         let conn = record::Conn::read(&call);
         let goes = match call.entry() {
-            _ if call.u8(at::MARK) != frame::BY_RUST => continue,
-            entries::RECV_PKT | entries::RECV_ASKED => conn.reads(),
+            entries::RECV_PKT | entries::RECV_ASKED => conn.data_first(),
             entries::GET_POLLED_EVSET => conn.polls(),
             entries::SEND_PKT..=entries::RAW_ASKED => false,
             _ => continue,

@@ -157,7 +157,7 @@ impl Conn {
     }
 
     /// What was sent and is not yet forwarded at the guest.
-    pub fn outstanding(&self) -> u32 {
+    fn outstanding(&self) -> u32 {
         self.rx_cnt.wrapping_sub(self.peer_fwd_cnt)
     }
 
@@ -171,7 +171,7 @@ impl Conn {
     }
 
     /// Data is what a turn comes to first, in a state that gives it.
-    pub fn reads(&self) -> bool {
+    pub fn data_first(&self) -> bool {
         let gives = matches!(self.state, State::Established | State::PeerClosed(false, _));
         gives && self.pending & 15 == 8
     }

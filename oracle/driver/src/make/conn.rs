@@ -26,8 +26,7 @@ impl Maker {
             _ => self.pick(&[less.wrapping_sub(1), less, less.wrapping_add(1)]),
         };
         let rx_cnt = self.counter(size);
-        let peer_fwd_cnt = self.counter(size);
-        let peer_buf_alloc = self.alloc(rx_cnt.wrapping_sub(peer_fwd_cnt));
+        let (peer_buf_alloc, peer_fwd_cnt) = self.guest_says(size, rx_cnt);
         let late = [0, 1, MAX_CLOCK_MS, MAX_CLOCK_MS + MAX_TIMEOUT_MS, u64::MAX];
         let expiry = match self.below(8) {
             0..4 => None,
@@ -97,13 +96,21 @@ impl Maker {
         }
     }
 
-    /// What the guest allocates at so much outstanding: with some room, just that, or shrunk below it.
-    pub(super) fn alloc(&mut self, outstanding: u32) -> u32 {
-        match self.below(16) {
+    /// The guest's allocation and forwarded count, when so much was sent to it. Mostly little is
+    /// outstanding; else any count, also of a guest that forwarded more. The allocation leaves room
+    /// (if 32 bits do), or is used up, or shrunk below what is outstanding.
+    pub(super) fn guest_says(&mut self, size: u32, sent: u32) -> (u32, u32) {
+        let fwd_cnt = match self.one_in(3) {
+            true => self.counter(size),
+            false => sent.wrapping_sub(self.length(1 << 17) as u32),
+        };
+        let outstanding = sent.wrapping_sub(fwd_cnt);
+        let alloc = match self.below(16) {
             0 => outstanding,
             1..5 => outstanding - self.length(outstanding as u64) as u32,
             _ => outstanding.saturating_add(self.credit()),
-        }
+        };
+        (alloc, fwd_cnt)
     }
 
     fn conn_entry(&mut self) -> u8 {

@@ -98,8 +98,7 @@ impl Maker {
             true => self.next() as u32,
             false => self.below(4) as u32,
         };
-        let fwd_cnt = self.counter(conn.ring.size);
-        let alloc = self.alloc(conn.rx_cnt.wrapping_sub(fwd_cnt));
+        let (alloc, fwd_cnt) = self.guest_says(conn.ring.size, conn.rx_cnt);
         let len = match self.one_in(80) {
             true => self.next() as u32,
             false => len as u32,
