@@ -23,12 +23,12 @@ use csm::ConnState;
 use csm::Timer;
 use csm::asks;
 use csm::both_off;
-use csm::is_established;
 use csm::is_local_init;
 use csm::is_recv_off;
 use csm::is_send_off;
 use csm::mark;
 use csm::shut;
+use csm::shut_arms;
 use csm::takes;
 use defs::Answer;
 use defs::StreamAnswer;
@@ -242,8 +242,8 @@ fn on_response(conn: VsockConnection) -> VsockConnection
     conn
 }
 
-// Flags only grow. With both set the connection is reset as soon as the ring is empty; only where
-// the guest sets both at once, and bytes are held, is there a time that this may take.
+// Flags only grow. With both set the connection is reset as soon as the ring is empty; where they
+// become so while bytes are held, the timer is set, unless one runs: the time that this may take.
 fn on_shutdown(conn: VsockConnection, empty: bool, flags: u32, now_ms: u64) -> VsockConnection
     requires { ⌜ Lingers conn «now_ms» ⌝ }
     ensures { λ r. ⌜ r ≡ onShutdown conn empty flags «now_ms» ⌝ }
@@ -254,7 +254,7 @@ fn on_shutdown(conn: VsockConnection, empty: bool, flags: u32, now_ms: u64) -> V
     let linger = later_by(now_ms, conn.settings.shutdown_timeout);
     let after = shut(state, is_recv_off(flags), is_send_off(flags));
     let off = both_off(after);
-    let timer = choose_timer(is_established(state) & off & !empty, linger, expiry);
+    let timer = choose_timer(shut_arms(state, after, empty, expiry), linger, expiry);
     with_state(conn, after, timer, mark(pending, off & empty, false, false))
 }
 

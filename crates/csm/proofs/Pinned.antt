@@ -16,7 +16,6 @@ use Rattle.csm.proofs.row.state_after.Reads as state-after
 use Rattle.csm.proofs.row.timer_after.Reads as timer-after
 use Rattle.csm.proofs.state.asks.Reads as asks
 use Rattle.csm.proofs.state.both_off.Reads as both-off
-use Rattle.csm.proofs.state.is_established.Reads as is-established
 use Rattle.csm.proofs.state.is_local_init.Reads as is-local-init
 use Rattle.csm.proofs.state.is_recv_off.Reads as is-recv-off
 use Rattle.csm.proofs.state.is_send_off.Reads as is-send-off
@@ -25,6 +24,7 @@ use Rattle.csm.proofs.state.shut.Reads as shut
 use Rattle.csm.proofs.state.takes.Reads as takes
 use Rattle.csm.proofs.timer.is_after.Reads as is-after
 use Rattle.csm.proofs.timer.is_due.Reads as is-due
+use Rattle.csm.proofs.timer.shut_arms.Reads as shut-arms
 use Rattle.csm.proofs.turn.turn_reads.Reads as turn-reads
 use Rattle.csm.proofs.turn.turn_step.Reads as turn-step
 
@@ -38,7 +38,6 @@ pub record EachCallPinned : Type 0 where
   pub timer-after : Pinned timer-after.Learnt Timer (λ l r e. r)
   pub asks : Pinned asks.Learnt Bool (λ l r e. r)
   pub both-off : Pinned both-off.Learnt Bool (λ l r e. r)
-  pub is-established : Pinned is-established.Learnt Bool (λ l r e. r)
   pub is-local-init : Pinned is-local-init.Learnt Bool (λ l r e. r)
   pub is-recv-off : Pinned is-recv-off.Learnt Bool (λ l r e. r)
   pub is-send-off : Pinned is-send-off.Learnt Bool (λ l r e. r)
@@ -47,6 +46,7 @@ pub record EachCallPinned : Type 0 where
   pub takes : Pinned takes.Learnt Bool (λ l r e. r)
   pub is-after : Pinned is-after.Learnt Bool (λ l r e. r)
   pub is-due : Pinned is-due.Learnt Bool (λ l r e. r)
+  pub shut-arms : Pinned shut-arms.Learnt Bool (λ l r e. r)
   pub turn-reads : Pinned turn-reads.Learnt Bool (λ l r e. r)
   pub turn-step : Pinned turn-step.Learnt RxStep (λ l r e. r)
 
@@ -60,7 +60,6 @@ each-call-pinned = record {
   timer-after = by-equation _ _ _;
   asks = by-equation _ _ _;
   both-off = by-equation _ _ _;
-  is-established = by-equation _ _ _;
   is-local-init = by-equation _ _ _;
   is-recv-off = by-equation _ _ _;
   is-send-off = by-equation _ _ _;
@@ -69,6 +68,7 @@ each-call-pinned = record {
   takes = by-equation _ _ _;
   is-after = by-equation _ _ _;
   is-due = by-equation _ _ _;
+  shut-arms = by-equation _ _ _;
   turn-reads = by-equation _ _ _;
   turn-step = by-equation _ _ _;
 }

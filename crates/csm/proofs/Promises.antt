@@ -1,7 +1,7 @@
 -- The promises of specs/Promises, each by its law. Assumes nothing.
 use Rattle.csm.specs.Promises.{SaysWhatWasRead, TurnAnswers, LastToldMoves, ShutOnlyGrows}
 use Rattle.csm.specs.Said.{SaysFirstPending, SevenAndEightAlwaysLeave}
-use Rattle.csm.specs.Means.{EveryStateMeans, EveryTimerMeans}
+use Rattle.csm.specs.Means.{EveryStateMeans, EveryTimerMeans, EveryShutdownMeans}
 use Rattle.csm.proofs.FirstLaws as first
 use Rattle.csm.proofs.MeansLaws as means
 use Rattle.csm.proofs.SaidLaws as said
@@ -25,6 +25,9 @@ every-state-means = means.every-state-means
 
 pub every-timer-means : EveryTimerMeans
 every-timer-means = means.every-timer-means
+
+pub every-shutdown-means : EveryShutdownMeans
+every-shutdown-means = means.every-shutdown-means
 
 pub says-first-pending : SaysFirstPending
 says-first-pending = said.says-first-pending

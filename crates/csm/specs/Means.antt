@@ -4,12 +4,12 @@ use Prim.Native.Nat.{ℕ, _≤_, _<_}
 use mathlib.Core.Path.{_≡_}
 use mathlib.Core.Bool.{Bool, true, false}
 use Rattle.defs.specs.Promises.{Exactly}
-use Rattle.csm.specs.State.{polls, gives, takes, asks, bothOff, isEstablished}
-use Rattle.csm.specs.Timer.{isAfter, isDue}
+use Rattle.csm.specs.State.{polls, gives, takes, asks, bothOff}
+use Rattle.csm.specs.Timer.{isAfter, isDue, isSet, shutArms}
 use Rattle.csm.specs.declared.state.ConnState.{ConnState}
 use Rattle.csm.specs.declared.state.ConnState.the-variants.{LocalInit, PeerInit, Established, LocalClosed, PeerClosed, Killed}
 use Rattle.csm.specs.declared.timer.Timer.{Timer}
-use Rattle.csm.specs.declared.timer.Timer.the-variants.{At}
+use Rattle.csm.specs.declared.timer.Timer.the-variants.{Unset, At}
 
 -- the states that take data: Established and PeerClosed(any, no send-off)
 abbrev pub takesData : ConnState → Bool
@@ -62,30 +62,28 @@ shutBoth (PeerClosed true false) = false
 shutBoth (PeerClosed false sendOff) = false
 shutBoth Killed = false
 
--- Established alone
-abbrev pub isOpen : ConnState → Bool
-isOpen LocalInit = false
-isOpen PeerInit = false
-isOpen Established = true
-isOpen LocalClosed = false
-isOpen (PeerClosed recvOff sendOff) = false
-isOpen Killed = false
-
 pub record StatesMean (s : ConnState) : Type 0 where
   pub takes : takes s ≡ takesData s
   pub gives : gives s ≡ servesData s
   pub polls : polls s ≡ waitsForData s
   pub asks : asks s ≡ answersRequest s
   pub both : bothOff s ≡ shutBoth s
-  pub established : isEstablished s ≡ isOpen s
 
 abbrev pub EveryStateMeans : Type 0
 EveryStateMeans = (s : ConnState) → StatesMean s
 
--- 01: `will_expire` is time > now, `has_expired` time <= now, of a timer that is set
+-- 01: `will_expire` is time > now, `has_expired` time <= now, of a timer that is set; 2026-08: one that is set runs, at any clock
 pub record TimersMean (t : Timer) (clock : ℕ) : Type 0 where
   pub after : Exactly (isAfter t clock ≡ true) ((time : ℕ) × (t ≡ At time) × (clock < time))
   pub due : Exactly (isDue t clock ≡ true) ((time : ℕ) × (t ≡ At time) × (time ≤ clock))
+  pub runs : Exactly (isSet t ≡ true) ((time : ℕ) × (t ≡ At time))
 
 abbrev pub EveryTimerMeans : Type 0
 EveryTimerMeans = (t : Timer) (clock : ℕ) → TimersMean t clock
+
+-- 2026-08: a SHUTDOWN from one state to another arms the timer exactly where both flags become set that were not both set before, the ring isn't empty
+-- and no timer runs
+abbrev pub EveryShutdownMeans : Type 0
+EveryShutdownMeans =
+    (before after : ConnState) (empty : Bool) (t : Timer)
+    → Exactly (shutArms before after empty t ≡ true) ((after ≡ PeerClosed true true) × (before ≡ PeerClosed true true → ⊥) × (empty ≡ false) × (t ≡ Unset))

@@ -52,15 +52,6 @@ isLocalInit LocalClosed = false
 isLocalInit (PeerClosed recvOff sendOff) = false
 isLocalInit Killed = false
 
--- data may pass both ways
-abbrev pub isEstablished : ConnState → Bool
-isEstablished LocalInit = false
-isEstablished PeerInit = false
-isEstablished Established = true
-isEstablished LocalClosed = false
-isEstablished (PeerClosed recvOff sendOff) = false
-isEstablished Killed = false
-
 -- shutdown flags: 1 receive, 2 send; the guest will receive no more
 abbrev pub recvOff : ℕ → Bool
 recvOff flags = eqb (flags / flagShutdownRcv % 2) 1

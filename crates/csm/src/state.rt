@@ -1,6 +1,6 @@
 // The state of a connection, and what each state allows.
 ghost use mathlib.Core.Path.{_≡_};
-ghost use Rattle.csm.specs.State.{polls, gives, takes, asks, isLocalInit, isEstablished, recvOff, sendOff, shutBy, bothOff};
+ghost use Rattle.csm.specs.State.{polls, gives, takes, asks, isLocalInit, recvOff, sendOff, shutBy, bothOff};
 use packet::uapi;
 
 pub enum ConnState {
@@ -81,20 +81,6 @@ pub fn is_local_init(state: ConnState) -> bool
         ConnState::LocalInit => true,
         ConnState::PeerInit => false,
         ConnState::Established => false,
-        ConnState::LocalClosed => false,
-        ConnState::PeerClosed(_, _) => false,
-        ConnState::Killed => false,
-    }
-}
-
-// Confirmed, and closed by neither side.
-pub fn is_established(state: ConnState) -> bool
-    ensures { λ r. ⌜ r ≡ isEstablished state ⌝ }
-{
-    match state {
-        ConnState::LocalInit => false,
-        ConnState::PeerInit => false,
-        ConnState::Established => true,
         ConnState::LocalClosed => false,
         ConnState::PeerClosed(_, _) => false,
         ConnState::Killed => false,

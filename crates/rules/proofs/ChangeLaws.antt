@@ -39,15 +39,15 @@ use Rattle.txbuf.proofs.RecordLaws.{sound-says}
 use Rattle.txbuf.proofs.FlushLaws.{count-small}
 use Rattle.txbuf.proofs.Promises.{flush-takes-oldest}
 use Rattle.txbuf.specs.declared.record.TxBuf.{TxBuf}
-use Rattle.csm.specs.State.{isLocalInit, isEstablished, recvOff, sendOff, shutBy, bothOff, asks}
+use Rattle.csm.specs.State.{isLocalInit, recvOff, sendOff, shutBy, bothOff, asks}
 use Rattle.csm.specs.Pending.{marked}
-use Rattle.csm.specs.Timer.{later}
-use Rattle.csm.specs.Means.{takesData, shutBoth, answersRequest, isOpen}
+use Rattle.csm.specs.Timer.{isSet}
+use Rattle.csm.specs.Means.{takesData, shutBoth, answersRequest}
 use Rattle.csm.proofs.Promises.{every-state-means}
 use Rattle.csm.specs.declared.state.ConnState.{ConnState}
 use Rattle.csm.specs.declared.state.ConnState.the-variants.{LocalInit, PeerInit, Established, LocalClosed, PeerClosed, Killed}
 use Rattle.csm.specs.declared.timer.Timer.{Timer}
-use Rattle.csm.specs.declared.timer.Timer.the-variants.{Unset}
+use Rattle.csm.specs.declared.timer.Timer.the-variants.{Unset, At}
 use Rattle.rules.specs.Notify.{NotifyIn, NotifyLeft, seenOf, settledOf, drainedOf, absorbed, due, flushIn, flushed, notifyDoor, notifyAnswer, notifyDone, notifyKept, notifyOf}
 use Rattle.rules.specs.Record.{peerOf, sentOf, regrouped, quiet, withState, killedOf}
 use Rattle.rules.specs.Open.{Opening, ConnLeft, freshOf, allocated, zeroConn, openAnswer, peerInitOf, localInitOf}
@@ -57,7 +57,7 @@ use Rattle.rules.specs.Send.{SendPlan, heardOf, movedOf, updatedOf, onRe
 use Rattle.rules.specs.Moves.{Numbers}
 use Rattle.rules.specs.Outcomes.{meetsData, writesNow, takenNow, killsNow, fallsShort}
 use Rattle.rules.specs.Common.{TimersArm, LastToldMoves}
-use Rattle.rules.specs.Leaves.{pushedOn, takenOff, shutsReceive, shutsSend, closedBy, closedNow, confirmed, dataKills, dataStays, stateNow, cleared, lingersNow, timerNow, flushesNow, flushFails, flushEnds, SendLeaves, NotifyLeaves, EveryNotifyLeaves, Opened, OpeningMeans, AllZero, RefusedIsZero, EveryRawLeaves, EverySendLeaves}
+use Rattle.rules.specs.Leaves.{pushedOn, takenOff, shutsReceive, shutsSend, closedBy, closedNow, confirmed, dataKills, dataStays, stateNow, cleared, lingersNow, unlessRunning, timerNow, flushesNow, flushFails, flushEnds, SendLeaves, NotifyLeaves, EveryNotifyLeaves, Opened, OpeningMeans, AllZero, RefusedIsZero, EveryRawLeaves, EverySendLeaves}
 use Rattle.rules.specs.declared.record.VsockConnection.{VsockConnection}
 use Rattle.rules.proofs.RecordLaws.{sound-over-ring}
 use Rattle.rules.proofs.AnswerLaws.{notify-told}
@@ -92,14 +92,12 @@ closed-is LocalClosed r f = refl
 closed-is (PeerClosed a b) r f = refl
 closed-is Killed r f = refl
 
--- a SHUTDOWN in Established leaves both flags set exactly where it has both
-lingers-is : (s : ConnState) (r f held : Bool) → isOpen s && ((r && f) && held) ≡ isEstablished s && bothOff (shutBy s r f) && held
-lingers-is LocalInit r f held = refl
-lingers-is PeerInit r f held = refl
-lingers-is Established r f held = refl
-lingers-is LocalClosed r f held = refl
-lingers-is (PeerClosed a b) r f held = refl
-lingers-is Killed r f held = refl
+-- a timer that runs stays, by a test of it or case by case
+arms-is : (x y : Bool) (t : Timer) (time : ℕ) → x ≡ y → when (x && not (isSet t)) (At time) t ≡ when y (unlessRunning t time) t
+unfolding when
+arms-is true y Unset time e = rw (← e)
+arms-is true y (At running) time e = rw (← e)
+arms-is false y t time e = rw (← e)
 
 first-part : (a b c d u : Bool) → a ≡ true → c ≡ false → b ≡ u → u ≡ (a && b) || (c && d)
 first-part a b c d u p q r = rw (p, q, r) (sym (or-false u))
@@ -162,7 +160,7 @@ module _ (i : SendIn) where
   abbrev heard : VsockConnection
   heard = heardOf (i .conn) (decoded (i .hdr))
 
-  not-met : eqb (decoded (i .hdr) .op) opRw ≡ false → meetsData i ≡ false
+  pub not-met : eqb (decoded (i .hdr) .op) opRw ≡ false → meetsData i ≡ false
   not-met e = ap (λ (b : Bool). takesData (i .conn .state) && i .present && b) e ∙ and-false (takesData (i .conn .state) && i .present)
 
   -- where nothing is marked
@@ -189,14 +187,19 @@ module _ (i : SendIn) where
   shut-now : shut ≡ closedNow i
   shut-now = rw (div-one (decoded (i .hdr) .flags)) (sym (closed-is (i .conn .state) (shutsReceive i) (shutsSend i)))
 
-  lingers-now : isEstablished (i .conn .state) && bothOff shut && not (eqb (usedOf (i .conn .«tx_buf»)) 0) ≡ lingersNow i
-  lingers-now =
-      rw (div-one (decoded (i .hdr) .flags), ← some (usedOf (i .conn .«tx_buf»)))
-      (sym (lingers-is (i .conn .state) (shutsReceive i) (shutsSend i) (not (eqb (usedOf (i .conn .«tx_buf»)) 0))))
+  lingers-now : bothOff shut && not (bothOff (i .conn .state)) && not (eqb (usedOf (i .conn .«tx_buf»)) 0) ≡ lingersNow i
+  lingers-now = rw (shut-now, every-state-means (closedNow i) .both, every-state-means (i .conn .state) .both, some (usedOf (i .conn .«tx_buf»)))
+
+  -- the timer by the rule
+  abbrev lingering : Timer
+  lingering = onShutdown heard (quiet (i .conn .«tx_buf»)) (decoded (i .hdr) .flags) (i .clock) .expiry
+
+  lingering-now : lingering ≡ when (lingersNow i) (unlessRunning (i .conn .expiry) (i .clock + i .conn .settings .«shutdown_timeout»)) (i .conn .expiry)
+  unfolding onShutdown heardOf withState quiet
+  lingering-now = arms-is _ _ (i .conn .expiry) (i .clock + i .conn .settings .«shutdown_timeout») lingers-now
 
   shutdown-now : onShutdown heard (quiet (i .conn .«tx_buf»)) (decoded (i .hdr) .flags) (i .clock)
-      ≡ shaped i shut (when (isEstablished (i .conn .state) && bothOff shut && not (eqb (usedOf (i .conn .«tx_buf»)) 0)) (later (i .clock) (i .conn .settings .«shutdown_timeout»)) (i .conn .expiry))
-      (bothOff shut && eqb (usedOf (i .conn .«tx_buf»)) 0) false (i .conn .«tx_buf») (i .conn .«fwd_cnt»)
+      ≡ shaped i shut lingering (bothOff shut && eqb (usedOf (i .conn .«tx_buf»)) 0) false (i .conn .«tx_buf») (i .conn .«fwd_cnt»)
   unfolding onShutdown heardOf withState quiet
   shutdown-now = refl
 
@@ -232,14 +235,14 @@ module _ (i : SendIn) where
     unfolding sendDone when
     by-shutdown e = record {
       s = shut;
-      t = when (isEstablished (i .conn .state) && bothOff shut && not (eqb (usedOf (i .conn .«tx_buf»)) 0)) (later (i .clock) (i .conn .settings .«shutdown_timeout»)) (i .conn .expiry);
+      t = lingering;
       rst = bothOff shut && eqb (usedOf (i .conn .«tx_buf»)) 0;
       update = false;
       ring = i .conn .«tx_buf»;
       n = i .conn .«fwd_cnt»;
       is = rule-shutdown heard _ (decoded (i .hdr)) _ _ _ _ e ∙ shutdown-now;
       state-is = rw (m, e) shut-now;
-      timer-is = rw (e, lingers-now);
+      timer-is = rw e lingering-now;
       rst-is = rw (m, e) (rw shut-now (ap (λ (b : Bool). b && eqb (usedOf (i .conn .«tx_buf»)) 0) (every-state-means (closedNow i) .both)));
       update-is = rw (m, e);
       ring-is = rw m;

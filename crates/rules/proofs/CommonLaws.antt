@@ -1,4 +1,4 @@
--- What calls have in common: the promises of specs/Common but timers and last-told, which ChangeLaws has. Assumes nothing.
+-- What calls have in common: the promises of specs/Common but timers and last-told, which ChangeLaws and TimerLaws have. Assumes nothing.
 use Prim.Native.Nat.{ℕ, _+_, _-_, _≤_}
 use mathlib.Core.Path.{_≡_, refl, sym, ap, subst, _∙_}
 use mathlib.Core.Logic.{⊎-elim}

@@ -10,6 +10,7 @@ pub mod OfferLaws
 pub mod MovesLaws
 pub mod RunLaws
 pub mod FlagLaws
+pub mod TimerLaws
 pub mod DrainLaws
 pub mod Stories
 pub mod Promises

@@ -3,8 +3,8 @@ use Rattle.rules.specs.Promises.{SendMoves, NotifyMoves, SendCountedOff,
 use Rattle.rules.specs.Answers.{SoundMeans, OpenAnswers, LookAnswers, DoorAnswers, SendAnswers, RecvAnswers, NotifyAnswers, RawAnswers}
 use Rattle.rules.specs.Outcomes.{RefusalsChangeNothing, EverySendHears, EverySendAccepts, UpdateIsDue, EveryTurnLeaves, HeaderTells, SevenAndEightLeave, EveryKillKills, EveryPollPolls, ExpiryMeans, LooksTell, RefusedTellsNothing}
 use Rattle.rules.specs.Leaves.{EverySendLeaves, EveryNotifyLeaves, OpeningMeans, RefusedIsZero, EveryRawLeaves}
-use Rattle.rules.specs.Common.{TimersArm, LastToldMoves, UnreachedIsIgnored, SoundStaysSound, OffersMean, DataFitsPeer, NoRoomAsks}
-use Rattle.rules.specs.Runs.{EveryRunForwards, CutsDoNotMatter, FlagsOnlyGrow, Drains}
+use Rattle.rules.specs.Common.{TimersArm, ShutdownArms, LastToldMoves, UnreachedIsIgnored, SoundStaysSound, OffersMean, DataFitsPeer, NoRoomAsks}
+use Rattle.rules.specs.Runs.{EveryRunForwards, CutsDoNotMatter, FlagsOnlyGrow, ClosingIsTimed, Drains}
 use Rattle.rules.specs.Stories.{StoriesHold}
 use Rattle.rules.proofs.Edges as edges
 use Rattle.rules.proofs.RecordLaws as records
@@ -15,6 +15,7 @@ use Rattle.rules.proofs.ChangeLaws as leaves
 use Rattle.rules.proofs.CommonLaws as common
 use Rattle.rules.proofs.RunLaws as forwarding
 use Rattle.rules.proofs.FlagLaws as flags
+use Rattle.rules.proofs.TimerLaws as timers
 use Rattle.rules.proofs.DrainLaws as draining
 use Rattle.rules.proofs.Stories as stories
 use Rattle.rules.proofs.OfferLaws as offers
@@ -136,6 +137,9 @@ no-room-asks = common.no-room-asks
 pub timers-arm : TimersArm
 timers-arm = leaves.timers-arm
 
+pub shutdown-arms : ShutdownArms
+shutdown-arms = timers.shutdown-arms
+
 pub last-told-moves : LastToldMoves
 last-told-moves = leaves.last-told-moves
 
@@ -147,6 +151,9 @@ cuts-do-not-matter = forwarding.cuts-do-not-matter
 
 pub flags-only-grow : FlagsOnlyGrow
 flags-only-grow = flags.flags-only-grow
+
+pub closing-is-timed : ClosingIsTimed
+closing-is-timed = timers.closing-is-timed
 
 pub drains : Drains
 drains = draining.drains

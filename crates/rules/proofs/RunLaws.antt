@@ -37,9 +37,9 @@ numbers-kept c store e n m = event-moves c store e n m .numbers
 -- ---- openings
 
 -- an empty ring, and nothing counted
-record Begun (c : VsockConnection) : Type 0 where
-  head : c .«tx_buf» .head ≡ 0
-  tail : c .«tx_buf» .tail ≡ 0
+pub record Begun (c : VsockConnection) : Type 0 where
+  pub head : c .«tx_buf» .head ≡ 0
+  pub tail : c .«tx_buf» .tail ≡ 0
   count : c .«fwd_cnt» ≡ 0
 
 begun-fresh : (o : Opening) (state : ConnState) (pending : PendingRxSet) → Begun (freshOf o state pending)
@@ -59,12 +59,12 @@ begins : (c : VsockConnection) (store : List ℕ) → Begun c → Begins connect
 unfolding held heldFrom
 begins c store b = record { empty = rw (b .head, b .tail); count = b .count }
 
-begun-numbers : (c : VsockConnection) → Begun c → Numbers c
+pub begun-numbers : (c : VsockConnection) → Begun c → Numbers c
 begun-numbers c b = record { ring = record { head = rw (b .head) (omega arith); tail = rw (b .tail) (omega arith) }; «fwd_cnt» = rw (b .count) (omega arith) }
 
 -- ---- every run
 
-opening : {s : Start} {t : List Event} {c : VsockConnection} {store : List ℕ} → Run s t c store → Begun (s .left .conn)
+pub opening : {s : Start} {t : List Event} {c : VsockConnection} {store : List ℕ} → Run s t c store → Begun (s .left .conn)
 opening {s} r = begun (s .guest) (s .given) (s .left) (r .opened)
 
 pub run-numbers : {s : Start} {t : List Event} {c : VsockConnection} {store : List ℕ} → Run s t c store → Numbers c

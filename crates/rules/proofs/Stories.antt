@@ -19,6 +19,7 @@ use Rattle.txbuf.specs.Push.{runs, pushDone}
 use Rattle.txbuf.specs.Flush.{takenBy, overBy, endsBy, flushCount, flushOver, flushAnswer, flushDone, flushKept, flushOf}
 use Rattle.csm.specs.Turn.{turnStep, turnReads}
 use Rattle.csm.specs.declared.state.ConnState.the-variants.{PeerClosed, Killed}
+use Rattle.csm.specs.declared.timer.Timer.the-variants.{At}
 use Rattle.rules.specs.Record.{okSettings, soundConn, soundOver, quiet, creditOf, withState, killedOf}
 use Rattle.rules.specs.Notify.{seenOf, absorbed, settledOf, drainedOf, notifyDoor, notifyAnswer, notifyDone, notifyKept, notifyOf}
 use Rattle.rules.specs.Open.{freshOf, openAnswer, peerInitOf, localInitOf}
@@ -28,6 +29,7 @@ use Rattle.rules.specs.Runs.{before, after, storeAfter, Steps, Run, took
 use Rattle.rules.specs.Stories.{startA, a1, a2, a3, a4, a5, a6, a7, storeA, storyA, upToA5, endStoreA, startB, b1, b2, b3, b4, storyB, endStoreB, c3, c4, storyC, endStoreC, d2, storeD, d3, d4, d5, draining, startE, e1, e2, e3, e4, e5, storyE, endStoreE, ten, f6, endStoreF, f7, storyF, g2, endStoreG, storyG, StoriesHold}
 use Rattle.rules.proofs.RunLaws.{run-numbers, every-run-forwards, cuts-do-not-matter}
 use Rattle.rules.proofs.FlagLaws.{flags-only-grow}
+use Rattle.rules.proofs.TimerLaws.{closing-is-timed}
 use Rattle.rules.proofs.DrainLaws.{drains}
 
 up-to-a2 : Steps (startA .left .conn) (startA .store) (a2 ∷ a1 ∷ []) (after a2) storeA
@@ -36,8 +38,11 @@ up-to-a2 = then (then none a1 (refl, refl)) a2 (refl, refl, refl)
 up-to-a5 : Run startA upToA5 (after a5) (storeAfter (storeAfter storeA a3) a5)
 up-to-a5 = record { opened = refl; steps = then (then (then up-to-a2 a3 (refl, refl, refl)) a4 (refl, refl, refl)) a5 (refl, refl, refl) }
 
+up-to-a6 : Run startA (a6 ∷ upToA5) (after a6) endStoreA
+up-to-a6 = record { opened = refl; steps = then (up-to-a5 .steps) a6 (refl, refl, refl) }
+
 run-a : Run startA storyA (after a7) endStoreA
-run-a = record { opened = refl; steps = then (then (up-to-a5 .steps) a6 (refl, refl, refl)) a7 (refl, refl, refl) }
+run-a = record { opened = refl; steps = then (up-to-a6 .steps) a7 (refl, refl, refl) }
 
 run-b : Run startB storyB (after b4) endStoreB
 run-b = record {
@@ -93,6 +98,8 @@ record Computed : Type 0 where
   refused-a : after a3 ≡ before a3
   half-off : after a5 .state ≡ PeerClosed true false
   both-off : after a6 .state ≡ PeerClosed true true
+  held-6 : usedOf (after a6 .«tx_buf») ≡ 6
+  timer-6 : after a6 .expiry ≡ At 2000
   header : gathered deliveredBy storyA ≡ bytesA ∷ []
   head-2 : after d2 .«tx_buf» .head ≡ 2
   head-3 : after d3 .«tx_buf» .head ≡ 2
@@ -127,6 +134,8 @@ computed = record {
   refused-a = refl;
   half-off = refl;
   both-off = refl;
+  held-6 = refl;
+  timer-6 = refl;
   header = refl;
   head-2 = refl;
   head-3 = refl;
@@ -160,6 +169,9 @@ stories-hold =
       alike = cuts-do-not-matter _ _ _ _ _ _ _ _ run-a run-b (v .accepted-a ∙ sym (v .accepted-b)) (v .empty-a) (v .empty-b);
       grown = flags-only-grow _ _ _ _ up-to-a5 a6 (refl, refl, refl) true false (v .half-off);
       both-off = v .both-off;
+      six-held = v .held-6;
+      timed = closing-is-timed _ _ _ _ up-to-a6 (v .both-off) (omega (arith, v .held-6));
+      timer = v .timer-6;
       two-held = v .held-2;
       draining-is = drain-steps;
       two-outs = v .outs-2;

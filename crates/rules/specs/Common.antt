@@ -20,7 +20,8 @@ use Rattle.txbuf.specs.Record.{usedOf}
 use Rattle.txbuf.specs.Flush.{firstPiece, secondPiece}
 use Rattle.txbuf.specs.Means.{usesSecond}
 use Rattle.csm.specs.Said.{DataFirst, Reads, opDue, tellsNow, saidNow}
-use Rattle.csm.specs.declared.timer.Timer.the-variants.{At}
+use Rattle.csm.specs.declared.state.ConnState.the-variants.{PeerClosed}
+use Rattle.csm.specs.declared.timer.Timer.the-variants.{Unset, At}
 use Rattle.rules.specs.Open.{Opening, ConnLeft, PeerInitSays, LocalInitSays}
 use Rattle.rules.specs.Look.{KillSays, EvSetLeft, EvSetSays}
 use Rattle.rules.specs.Receive.{RecvIn, RecvLeft, RecvSays}
@@ -46,6 +47,21 @@ pub record TimersArm : Type 0 where
       ≡ when (eqb (opDue (turnOf i)) opRequest) (At (i .clock + i .conn .settings .«request_timeout»))
       (when (eqb (opDue (turnOf i)) opShutdown) (At (i .clock + i .conn .settings .«shutdown_timeout»)) (i .conn .expiry))
   pub kill : (c : VsockConnection) (o : ConnLeft) → KillSays c o → o .conn .expiry ≡ c .expiry
+
+-- 2026-08: a SHUTDOWN by which both flags become set that were not both set before, while the ring isn't empty and no timer runs
+pub record ArmsNow (i : SendIn) (o : SendLeft) : Type 0 where
+  pub op : decoded (i .hdr) .op ≡ opShutdown
+  pub before : i .conn .state ≡ PeerClosed true true → ⊥
+  pub after : o .conn .state ≡ PeerClosed true true
+  pub held : 1 ≤ usedOf (i .conn .«tx_buf»)
+  pub idle : i .conn .expiry ≡ Unset
+
+-- a packet that is done leaves a timer that was not there before exactly then, and its time is now plus the shutdown timeout; a SHUTDOWN of the guest's
+-- moves no timer that runs, in any state and at any clock
+pub record ShutdownArms : Type 0 where
+  pub arms : (i : SendIn) (o : SendLeft) (time : ℕ) → SendSays i o → o .answer .number ≡ 0
+      → Exactly ((i .conn .expiry ≡ At time → ⊥) × (o .conn .expiry ≡ At time)) (ArmsNow i o × (time ≡ i .clock + i .conn .settings .«shutdown_timeout»))
+  pub runs : (i : SendIn) (o : SendLeft) (time : ℕ) → SendSays i o → decoded (i .hdr) .op ≡ opShutdown → i .conn .expiry ≡ At time → o .conn .expiry ≡ At time
 
 -- 01: last-told becomes fwd_cnt on credit request, data, shutdown, read failure and credit update, which only a turn to speak says (`tellsNow` of `csm`)
 pub record LastToldMoves : Type 0 where

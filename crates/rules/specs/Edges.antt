@@ -1,8 +1,8 @@
--- The readings of 01 that a connection decides (R = 16, T = 4, timeouts 2,000): a to i. Assumes nothing.
+-- The readings of 01 that a connection decides (R = 16, T = 4, timeouts 2,000): a to i, and k as 2026-08 has it. Assumes nothing.
 use Prim.Native.Nat.{ℕ}
 use mathlib.Core.Bool.{Bool, true, false}
 use mathlib.Core.List.{List, [], _∷_, _++_}
-use lib.ListN.{take, replicate}
+use lib.ListN.{length, take, replicate}
 use Rattle.defs.specs.Answer.{told}
 use Rattle.defs.specs.Look.{FlagLeft}
 use Rattle.defs.specs.Reading.{Reading, _reads_}
@@ -10,7 +10,7 @@ use Rattle.defs.specs.declared.answer.Answer.the-variants.{Done}
 use Rattle.defs.specs.declared.stream.StreamAnswer.the-variants.{Count, WouldBlock, Failed}
 use Rattle.defs.specs.declared.stream.ReadAnswer.{ReadAnswer}
 use Rattle.defs.specs.declared.stream.ReadAnswer.the-variants.{Count as ReadCount, WouldBlock as ReadWouldBlock}
-use Rattle.packet.specs.Uapi.{opRw, opCreditRequest, typeStream}
+use Rattle.packet.specs.Uapi.{opResponse, opShutdown, opRw, opCreditRequest, typeStream}
 use Rattle.packet.specs.Header.{decoded, encoded}
 use Rattle.packet.specs.Edges.{bytesA}
 use Rattle.txbuf.specs.Record.{held}
@@ -22,7 +22,7 @@ use Rattle.csm.specs.declared.timer.Timer.{Timer}
 use Rattle.csm.specs.declared.timer.Timer.the-variants.{Unset, At}
 use Rattle.csm.specs.declared.state.ConnState.the-variants.{Established, LocalClosed, Killed}
 use Rattle.rules.specs.Record.{creditOf, withState}
-use Rattle.rules.specs.Open.{freshOf, peerInitOf, Opening}
+use Rattle.rules.specs.Open.{freshOf, peerInitOf, localInitOf, Opening}
 use Rattle.rules.specs.Look.{hasExpiredOf, evSetOf}
 use Rattle.rules.specs.Notify.{NotifyLeft, notifyOf}
 use Rattle.rules.specs.Offer.{notifyFirst, notifySecond}
@@ -56,18 +56,26 @@ afterA = turn (peerInitOf (opening 100) .conn) false ReadWouldBlock
 unfoldable pub readingA : List Reading
 readingA = (afterA .hdr reads bytesA) ∷ (afterA .conn .state reads Established) ∷ []
 
--- data of n bytes, the stream takes as many as it answers
-abbrev brings : VsockConnection → List ℕ → ℕ → List ℕ → SendLeft
-brings c store taken bytes = sendOf (record {
+-- the header of a packet of the guest's: op, flags, len
+abbrev pub packet : ℕ → ℕ → ℕ → List ℕ
+packet op flags len =
+    encoded (record { «src_cid» = 3; «dst_cid» = 2; «src_port» = 5000; «dst_port» = 1024; len = len; «type_» = typeStream; op = op; flags = flags; «buf_alloc» = 100; «fwd_cnt» = 0 })
+
+-- a packet at this time with this data, of which the stream takes so many bytes
+abbrev comes : VsockConnection → List ℕ → ℕ → List ℕ → List ℕ → ℕ → SendLeft
+comes c store clock hdr bytes taken = sendOf (record {
   conn = c;
   store = store;
-  hdr = encoded (record { «src_cid» = 3; «dst_cid» = 2; «src_port» = 5000; «dst_port» = 1024; len = lib.ListN.length bytes; «type_» = typeStream; op = opRw; flags = 0; «buf_alloc» = 100; «fwd_cnt» = 0 });
+  hdr = hdr;
   present = true;
   buf = bytes;
-  clock = 0;
+  clock = clock;
   answers = record { first = Count taken; second = WouldBlock };
   out = replicate taken 99;
 })
+
+abbrev brings : VsockConnection → List ℕ → ℕ → List ℕ → SendLeft
+brings c store taken bytes = comes c store 0 (packet opRw 0 (length bytes)) bytes taken
 
 -- the first 4 of b's 10 bytes
 abbrev taken : List ℕ
@@ -179,3 +187,33 @@ expired clock = hasExpiredOf (record { conn = standing (ring 0) 100 0 0 (At 500)
 unfoldable pub readingI : List Reading
 readingI =
     (expired 499 reads record { answer = told Done; holds = false }) ∷ (expired 500 reads record { answer = told Done; holds = true }) ∷ []
+
+-- one byte is held
+abbrev holding : VsockConnection → VsockConnection
+holding c = brings c places 0 (1 ∷ []) .conn
+
+-- a SHUTDOWN with these flags at this time
+abbrev shuts : VsockConnection → ℕ → ℕ → VsockConnection
+shuts c flags clock = comes c places clock (packet opShutdown flags 0) [] 0 .conn
+
+-- flag 1 at 1,000, then flag 2 at 1,500
+abbrev half : VsockConnection
+half = shuts (holding (afterA .conn)) 1 1000
+
+abbrev whole : VsockConnection
+whole = shuts half 2 1500
+
+-- opened by the host: the RESPONSE comes before the REQUEST is said, at 0, and so the request's timer runs in Established
+abbrev asking : VsockConnection
+asking = turn (comes (localInitOf (opening 0) .conn) places 0 (packet opResponse 0 0) [] 0 .conn) false ReadWouldBlock .conn
+
+-- k: SHUTDOWN 3 at 1,000: timer 3,000. SHUTDOWN 1, then 2 at 1,500: none, then 3,500, also after a third. One that runs stays, also where it has expired
+unfoldable pub readingK : List Reading
+readingK =
+    (shuts (holding (afterA .conn)) 3 1000 .expiry reads At 3000)
+    ∷ (half .expiry reads Unset)
+    ∷ (whole .expiry reads At 3500)
+    ∷ (shuts whole 3 1800 .expiry reads At 3500)
+    ∷ (shuts (holding asking) 3 1000 .expiry reads At 2000)
+    ∷ (shuts (holding asking) 3 2500 .expiry reads At 2000)
+    ∷ []

@@ -16,7 +16,7 @@ use Rattle.txbuf.specs.Record.{usedOf, held}
 use Rattle.txbuf.specs.Push.{written}
 use Rattle.txbuf.specs.Means.{countedNow}
 use Rattle.txbuf.specs.declared.record.TxBuf.{TxBuf}
-use Rattle.csm.specs.Means.{shutBoth, answersRequest, isOpen}
+use Rattle.csm.specs.Means.{shutBoth, answersRequest}
 use Rattle.csm.specs.Pending.{none}
 use Rattle.csm.specs.declared.state.ConnState.{ConnState}
 use Rattle.csm.specs.declared.state.ConnState.the-variants.{LocalInit, PeerInit, Established, LocalClosed, PeerClosed, Killed}
@@ -229,12 +229,17 @@ cleared LocalClosed t = t
 cleared (PeerClosed a b) t = t
 cleared Killed t = t
 
--- a SHUTDOWN in Established that has both flags, while bytes are held
+-- 2026-08: a SHUTDOWN by which both flags become set that were not both set before, while bytes are held
 abbrev pub lingersNow : SendIn → Bool
-lingersNow i = isOpen (i .conn .state) && ((shutsReceive i && shutsSend i) && leb 1 (usedOf (i .conn .«tx_buf»)))
+lingersNow i = (shutBoth (closedNow i) && not (shutBoth (i .conn .state))) && leb 1 (usedOf (i .conn .«tx_buf»))
 
--- such a one sets the timer to now plus the shutdown timeout; all else leaves it
+-- a timer that runs stays; where none runs it is set to this time
+abbrev pub unlessRunning : Timer → ℕ → Timer
+unlessRunning Unset time = At time
+unlessRunning (At running) time = At running
+
+-- RESPONSE in LocalInit clears the timer; such a SHUTDOWN sets one that doesn't run to now plus the shutdown timeout; all else leaves it
 abbrev pub timerNow : SendIn → Timer
 timerNow i =
     when (eqb (opOf i) opResponse) (cleared (i .conn .state) (i .conn .expiry))
-    (when (eqb (opOf i) opShutdown && lingersNow i) (At (i .clock + i .conn .settings .«shutdown_timeout»)) (i .conn .expiry))
+    (when (eqb (opOf i) opShutdown && lingersNow i) (unlessRunning (i .conn .expiry) (i .clock + i .conn .settings .«shutdown_timeout»)) (i .conn .expiry))

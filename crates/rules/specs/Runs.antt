@@ -15,6 +15,7 @@ use Rattle.runs.specs.Runs.{Machine, gathered, Each, Account}
 use Rattle.txbuf.specs.Record.{usedOf, held}
 use Rattle.csm.specs.State.{Grown}
 use Rattle.csm.specs.declared.state.ConnState.the-variants.{PeerClosed}
+use Rattle.csm.specs.declared.timer.Timer.the-variants.{Unset}
 use Rattle.rules.specs.Open.{Opening, ConnLeft, PeerInitSays, LocalInitSays}
 use Rattle.rules.specs.Look.{PendingSays, Timed, WillExpireSays, HasExpiredSays, ExpiryLeft, ExpirySays, StateLeft, StateSays, EvSetLeft, EvSetSays, KillSays}
 use Rattle.rules.specs.Receive.{RecvIn, RecvLeft, RecvSays}
@@ -203,6 +204,12 @@ abbrev pub FlagsOnlyGrow : Type 0
 FlagsOnlyGrow =
     (s : Start) (t : List Event) (c : VsockConnection) (store : List ℕ) → Run s t c store → (e : Event) → Made c store e
     → (recvOff sendOff : Bool) → c .state ≡ PeerClosed recvOff sendOff → Grown recvOff sendOff (after e .state)
+
+-- 2026-08: in a run from opening, a connection that the guest has shut both ways while bytes are held has a timer, by which the host can end it
+abbrev pub ClosingIsTimed : Type 0
+ClosingIsTimed =
+    (s : Start) (t : List Event) (c : VsockConnection) (store : List ℕ) → Run s t c store → c .state ≡ PeerClosed true true → 1 ≤ usedOf (c .«tx_buf»)
+    → c .expiry ≡ Unset → ⊥
 
 -- an out-event, not refused, whose first write, where one is due, takes at least one byte
 abbrev pub isOut : Event → Bool

@@ -22,9 +22,9 @@ use Rattle.packet.specs.declared.hdr.VsockPacketHdr.{VsockPacketHdr}
 use Rattle.txbuf.specs.Record.{usedOf}
 use Rattle.txbuf.specs.Push.{PushLeft, pushAnswer, pushDone}
 use Rattle.txbuf.specs.declared.record.TxBuf.{TxBuf}
-use Rattle.csm.specs.State.{takes, asks, isLocalInit, isEstablished, recvOff, sendOff, shutBy, bothOff}
+use Rattle.csm.specs.State.{takes, asks, isLocalInit, recvOff, sendOff, shutBy, bothOff}
 use Rattle.csm.specs.Pending.{marked}
-use Rattle.csm.specs.Timer.{later}
+use Rattle.csm.specs.Timer.{later, shutArms}
 use Rattle.csm.specs.declared.timer.Timer.the-variants.{Unset}
 use Rattle.csm.specs.declared.state.ConnState.{ConnState}
 use Rattle.csm.specs.declared.state.ConnState.the-variants.{Established}
@@ -52,11 +52,11 @@ onResponse c = when (isLocalInit (c .state)) (withState c Established Unset (c .
 abbrev pub shutOf : VsockConnection → ℕ → ConnState
 shutOf c flags = shutBy (c .state) (recvOff flags) (sendOff flags)
 
--- THE SHUTDOWN RULE: both set and ring empty: Rst; both set in Established and ring not empty: the shutdown timer
+-- THE SHUTDOWN RULE: both set and ring empty: Rst; both become set, ring not empty and no timer runs: the shutdown timer (2026-08)
 unfoldable pub onShutdown : VsockConnection → Bool → ℕ → ℕ → VsockConnection
 onShutdown c empty flags clock =
     withState c (shutOf c flags)
-    (when (isEstablished (c .state) && bothOff (shutOf c flags) && not empty) (later clock (c .settings .«shutdown_timeout»)) (c .expiry))
+    (when (shutArms (c .state) (shutOf c flags) empty (c .expiry)) (later clock (c .settings .«shutdown_timeout»)) (c .expiry))
     (marked (c .«pending_rx») (bothOff (shutOf c flags) && empty) false false)
 
 -- CREDIT_REQUEST: sets a credit update

@@ -7,13 +7,14 @@ use lib.ListN.{take, drop, replicate}
 use Rattle.defs.specs.declared.stream.StreamAnswer.{StreamAnswer}
 use Rattle.defs.specs.declared.stream.StreamAnswer.the-variants.{Count, WouldBlock}
 use Rattle.defs.specs.declared.stream.ReadAnswer.the-variants.{WouldBlock as ReadWouldBlock}
-use Rattle.packet.specs.Uapi.{opResponse, opShutdown, opRw, typeStream}
-use Rattle.packet.specs.Header.{encoded}
+use Rattle.packet.specs.Uapi.{opResponse, opShutdown, opRw}
 use Rattle.packet.specs.Edges.{bytesA}
 use Rattle.runs.specs.Runs.{gathered}
 use Rattle.txbuf.specs.Record.{usedOf}
 use Rattle.csm.specs.State.{Grown}
 use Rattle.csm.specs.declared.state.ConnState.the-variants.{PeerClosed, Killed}
+use Rattle.csm.specs.declared.timer.Timer.the-variants.{Unset, At}
+use Rattle.rules.specs.Edges.{packet}
 use Rattle.rules.specs.Open.{Opening, peerInitOf, localInitOf}
 use Rattle.rules.specs.Receive.{RecvIn, recvOf}
 use Rattle.rules.specs.Send.{SendIn, sendOf}
@@ -42,10 +43,6 @@ abbrev turn : VsockConnection → Event
 turn c =
     let i : RecvIn = record { conn = c; hdr = replicate 44 9; present = false; buf = []; clock = 0; answer = ReadWouldBlock; read = [] } in
     receives i (recvOf i)
-
-abbrev packet : ℕ → ℕ → ℕ → List ℕ
-packet op flags len =
-    encoded (record { «src_cid» = 3; «dst_cid» = 2; «src_port» = 5000; «dst_port» = 1024; len = len; «type_» = typeStream; op = op; flags = flags; «buf_alloc» = 100; «fwd_cnt» = 0 })
 
 -- a packet with this header and this data, to a stream that answers so
 abbrev comes : VsockConnection → List ℕ → List ℕ → List ℕ → StreamAnswer → Event
@@ -252,6 +249,9 @@ pub record StoriesHold : Type 0 where
   pub alike : Alike storyA storyB (after a7) (after b4)
   pub grown : Grown true false (after a6 .state)
   pub both-off : after a6 .state ≡ PeerClosed true true
+  pub six-held : usedOf (after a6 .«tx_buf») ≡ 6
+  pub timed : after a6 .expiry ≡ Unset → ⊥
+  pub timer : after a6 .expiry ≡ At 2000
   pub two-held : usedOf (after d2 .«tx_buf») ≡ 2
   pub draining-is : Steps (after d2) storeD draining (after d5) storeD
   pub two-outs : outs draining ≡ 2

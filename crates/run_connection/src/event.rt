@@ -13,7 +13,7 @@ use packet::uapi;
 use text::named;
 use text::say;
 
-// A clock that goes back: the timer of the later SHUTDOWN is the earlier.
+// A SHUTDOWN at 5,000 and, on the same record, one at 1,000: each timer goes by its own clock.
 pub fn timers() {
     let mut s = data();
     let held = send(established(), s, StreamAnswer::WouldBlock);

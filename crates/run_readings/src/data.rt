@@ -29,12 +29,20 @@ pub fn reading_a() {
 // 10 bytes to an empty ring, of which the stream takes 4; then 10 more, or 11.
 pub fn reading_bcd() {
     let mut storage = [0u8; SIZE as usize];
-    let b = sent(established(100), uapi::VSOCK_OP_RW, 0, 10, 4, &mut storage);
+    let b = sent(
+        established(100),
+        0,
+        uapi::VSOCK_OP_RW,
+        0,
+        10,
+        4,
+        &mut storage,
+    );
     say_data(b"b", b);
     let mut other = storage;
-    let c = sent(b, uapi::VSOCK_OP_RW, 0, 10, 0, &mut storage);
+    let c = sent(b, 0, uapi::VSOCK_OP_RW, 0, 10, 0, &mut storage);
     say_data(b"c", c);
-    let d = sent(b, uapi::VSOCK_OP_RW, 0, 11, 0, &mut other);
+    let d = sent(b, 0, uapi::VSOCK_OP_RW, 0, 11, 0, &mut other);
     say_data(b"d", d);
 }
 
@@ -64,7 +72,7 @@ pub fn reading_e() {
 fn update_due(n: u32) {
     let mut storage = [0u8; SIZE as usize];
     let op = uapi::VSOCK_OP_RW;
-    let after = sent(established(100), op, 0, n, n as usize, &mut storage);
+    let after = sent(established(100), 0, op, 0, n, n as usize, &mut storage);
     let pending = after.pending_rx;
     number(after.fwd_cnt as u64);
     if pending.credit_update {

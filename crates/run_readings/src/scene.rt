@@ -19,14 +19,24 @@ const THRESHOLD: u32 = 4;
 
 const TIMEOUT: u64 = 2000;
 
-// A connection that the guest opened, with so much space of its own.
-pub fn opened(alloc: u32) -> VsockConnection {
-    let settings = Settings {
+fn settings() -> Settings {
+    Settings {
         threshold: THRESHOLD,
         request_timeout: TIMEOUT,
         shutdown_timeout: TIMEOUT,
-    };
-    let opening = connection::new_peer_init(SIZE, settings, 2, 3, 1024, 5000, alloc);
+    }
+}
+
+// A connection that the guest opened, with so much space of its own.
+pub fn opened(alloc: u32) -> VsockConnection {
+    let opening = connection::new_peer_init(SIZE, settings(), 2, 3, 1024, 5000, alloc);
+    let conn = opening.conn;
+    conn
+}
+
+// One that the host opened.
+pub fn opened_by_host() -> VsockConnection {
+    let opening = connection::new_local_init(SIZE, settings(), 2, 3, 1024, 5000);
     let conn = opening.conn;
     conn
 }
@@ -50,9 +60,10 @@ pub fn established(alloc: u32) -> VsockConnection {
     turn(opened(alloc), &mut hdr, false, ReadAnswer::WouldBlock)
 }
 
-// A packet of the guest's at time 1,000; the stream takes so many of its bytes.
+// A packet of the guest's; the stream takes so many of its bytes.
 pub fn sent(
     conn: VsockConnection,
+    now_ms: u64,
     op: u16,
     flags: u32,
     len: u32,
@@ -83,7 +94,7 @@ pub fn sent(
         &bytes,
         true,
         b"0123456789abcdefg",
-        1000,
+        now_ms,
         storage,
         answers,
         &mut out,

@@ -175,14 +175,15 @@ fn readings(say: &mut impl FnMut(String) -> Result<()>) -> Result<()> {
     ))?;
     let mut k = conn(State::Established);
     k.ring.head = 1;
-    for flags in [&[3][..], &[1, 2]] {
+    for (flags, expiry) in [(&[3][..], None), (&[1, 2], None), (&[3], Some(2_000))] {
+        k.expiry = expiry;
         let mut c = rust(&k);
         flags
             .iter()
             .for_each(|f| drop(send(&mut c, 4, 0, *f, &mut [])));
         let left = now(&c);
         say(format!(
-            "k: SHUTDOWN {flags:?}: {:?}, timer {:?}",
+            "k: SHUTDOWN {flags:?}, timer {expiry:?}: {:?}, timer {:?}",
             left.state, left.expiry
         ))?;
     }

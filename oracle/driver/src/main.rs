@@ -27,6 +27,8 @@ const USAGE: &str = "usage: oracle COMMAND
   states <calls                   counts a connection's compared calls by state
   shrunk <calls                   counts those that meet an allocation below what is outstanding,
                                   those that go by credit, and those that do both
+  shut <calls                     counts SHUTDOWNs that leave both flags set while bytes are held, by
+                                  state (Established, PeerClosed, with both set before) and by timer
   show calls|replies <frames      prints them
   differ CALLS REPLIES OTHERS     prints the first call whose replies differ
   beyond                          what the Rust does where docs/DIFFERENCES.md says that it differs";
@@ -41,6 +43,7 @@ fn main() -> Result<()> {
         ["run"] => run(input, output)?,
         ["states"] => states(input, output)?,
         ["shrunk"] => shrunk(input, output)?,
+        ["shut"] => shut(input, output)?,
         ["show", what] => {
             while let Some(frame) = Frame::read(input)? {
                 let text = match what {
@@ -162,6 +165,33 @@ fn shrunk(input: &mut impl Read, output: &mut impl Write) -> Result<()> {
         both += (goes && conn.is_shrunk()) as u64;
     }
     writeln!(output, "{met} {by_credit} {both}")
+}
+
+/// How many compared SHUTDOWNs leave both flags set while bytes are held: in Established, in
+/// PeerClosed, and where both were set before; of each those that meet no timer, and those that do.
+fn shut(input: &mut impl Read, output: &mut impl Write) -> Result<()> {
+    let mut counts = [0u64; 6];
+    while let Some(call) = Frame::read(input)? {
+        let hdr = &call.runs[frame::HDR];
+        if call.u8(at::MARK) != frame::BY_RUST
+            || call.entry() != entries::SEND_PKT
+            || calls::op(hdr) != 4
+        {
+            continue;
+        }
+        let conn = record::Conn::read(&call);
+        let flags = calls::flags(hdr);
+        let (recv_off, send_off) = (flags & 1 != 0, flags & 2 != 0);
+        let state = match conn.state {
+            _ if conn.ring.held() == 0 => continue,
+            record::State::Established if recv_off && send_off => 0,
+            record::State::PeerClosed(true, true) => 4,
+            record::State::PeerClosed(r, s) if (r || recv_off) && (s || send_off) => 2,
+            _ => continue,
+        };
+        counts[state + conn.expiry.is_some() as usize] += 1;
+    }
+    writeln!(output, "{}", counts.map(|n| n.to_string()).join(" "))
 }
 
 /// The first call whose replies differ.

@@ -32,7 +32,8 @@ impl Maker {
         let conn = || Walk::from((calls::zero_conn(), vec![]));
         let ring = || Walk::from((calls::ring_of(0, 0, 0), vec![]));
         let mut maker = Maker {
-            state: seed.wrapping_mul(0x9e37_79b9_7f4a_7c15)
+            // By another factor than `next` adds, or one seed's draws would be the next one's.
+            state: seed.wrapping_mul(0xbf58_476d_1ce4_e5b9)
                 ^ batch.wrapping_mul(0xd134_2543_de82_ef95),
             walks: false,
             walk: 0,

@@ -61,6 +61,10 @@ pub fn len(hdr: &[u8]) -> u32 {
     u32::from_le_bytes(hdr[24..28].try_into().unwrap())
 }
 
+pub fn flags(hdr: &[u8]) -> u32 {
+    u32::from_le_bytes(hdr[32..36].try_into().unwrap())
+}
+
 /// A reply with a record and the runs that this entry hands back, as they came.
 pub(super) fn conn_left(call: &Frame, number: u8, conn: &Conn) -> Frame {
     let mut reply = answered(call, number);

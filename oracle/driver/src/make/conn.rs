@@ -5,6 +5,7 @@ use crate::entries::*;
 use crate::frame::*;
 use crate::limits::*;
 use crate::record::{Conn, State};
+use crate::stream::Answer;
 
 impl Maker {
     pub(super) fn any_conn(&mut self) -> (Conn, Vec<u8>) {
@@ -153,7 +154,11 @@ impl Maker {
             RECV_PKT | RECV_ASKED => self.packet_out(&mut call, &conn),
             NOTIFY | NOTIFY_ASKED => {
                 let (held, first) = (conn.ring.held() as u64, conn.ring.first() as u64);
-                let answers = [self.answer(first), self.answer(held.saturating_sub(first))];
+                let rest = held.saturating_sub(first);
+                let answers = match self.one_in(4) {
+                    true => [Answer::Count(first), Answer::Count(rest)],
+                    false => [self.answer(first), self.answer(rest)],
+                };
                 call.set_answers(answers);
                 call.set_yes(at::READABLE, self.one_in(3));
                 call.set_yes(at::WRITABLE, !self.one_in(6));

@@ -94,9 +94,10 @@ impl Maker {
 
     fn fill_hdr(&mut self, hdr: &mut [u8], conn: &Conn, len: u64) {
         let op = self.op();
-        let flags = match self.one_in(8) {
-            true => self.next() as u32,
-            false => self.below(4) as u32,
+        let flags = match self.below(8) {
+            0 => self.next() as u32,
+            1..4 => 3,
+            _ => self.below(4) as u32,
         };
         let (alloc, fwd_cnt) = self.guest_says(conn.ring.size, conn.rx_cnt);
         let len = match self.one_in(80) {
