@@ -30,6 +30,7 @@ for ((b = 0; done < calls; b++)); do
     $oracle tally <"$run/rust" >>"$run/tallies"
     $oracle shrunk <"$run/calls" >>"$run/shrunk"
     $oracle shut <"$run/calls" >>"$run/shut"
+    $oracle killed <"$run/calls" >>"$run/killed"
     done=$((done + n))
     [ "$calls" -le "$batch" ] || echo "compare: $done of $calls calls, $(($(date +%s) - start)) s" >&2
 done
@@ -40,3 +41,4 @@ awk -v seed="$seed" -v s=$(($(date +%s) - start)) \
     '{ all += $5; if ($4 == "R") rust += $5 } END { printf "compare: seed %s, %d calls without a difference in %d s: %d against the Rust, %d refusals against 01\n", seed, all, s, rust, all - rust }' $dir/counts
 awk '{ met += $1; by += $2; both += $3 } END { printf "compare: %d calls met a guest that allocates less than is outstanding, %d of the %d that go by credit\n", met, both, by }' "$run/shrunk"
 awk '{ for (i = 1; i <= 6; i++) n[i] += $i } END { printf "compare: SHUTDOWNs that leave both flags set while bytes are held, without and with a timer that runs: %d and %d in Established, %d and %d in PeerClosed, %d and %d where both were set before\n", n[1], n[2], n[3], n[4], n[5], n[6] }' "$run/shut"
+awk '{ for (i = 1; i <= 5; i++) n[i] += $i } END { printf "compare: calls that kill while more than a reset is pending: %d by a failed write, %d by a full ring, %d by a failed flush, %d by kill; %d failed flushes fall short of the threshold\n", n[1], n[2], n[3], n[4], n[5] }' "$run/killed"

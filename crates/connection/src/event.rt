@@ -96,7 +96,7 @@ fn absorb(answer: Answer) -> Answer
     }
 }
 
-// After a flush. A failed first write kills.
+// After a flush. A failed first write kills, and nothing follows.
 fn drained(
     conn: VsockConnection,
     ring: TxBuf,
@@ -109,7 +109,7 @@ fn drained(
 {
     let next = moved(conn, ring, taken);
     if fails {
-        return settled(killed(next), empty);
+        return killed(next);
     }
     settled(next, empty)
 }

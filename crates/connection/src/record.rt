@@ -4,7 +4,6 @@ ghost use Rattle.rules.specs.Record.{okSettings, soundConn, soundOver, quiet, c
 use csm::ConnState;
 use csm::PendingRxSet;
 use csm::Timer;
-use csm::mark;
 use defs::Answer;
 use defs::limits;
 use rules::Settings;
@@ -86,16 +85,17 @@ pub(crate) fn with_state(
     }
 }
 
-// Killed, with a reset pending; other indications stay.
+// Killed, with only the reset pending: once that is said there is nothing more to say.
 pub(crate) fn killed(conn: VsockConnection) -> VsockConnection
     ensures { λ r. ⌜ r ≡ killedOf conn ⌝ }
 {
     let expiry = conn.expiry;
-    let pending = conn.pending_rx;
-    with_state(
-        conn,
-        ConnState::Killed,
-        expiry,
-        mark(pending, true, false, false),
-    )
+    let reset = PendingRxSet {
+        request: false,
+        response: false,
+        rst: true,
+        rw: false,
+        credit_update: false,
+    };
+    with_state(conn, ConnState::Killed, expiry, reset)
 }

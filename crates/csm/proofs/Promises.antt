@@ -1,6 +1,6 @@
 -- The promises of specs/Promises, each by its law. Assumes nothing.
 use Rattle.csm.specs.Promises.{SaysWhatWasRead, TurnAnswers, LastToldMoves, ShutOnlyGrows}
-use Rattle.csm.specs.Said.{SaysFirstPending, SevenAndEightAlwaysLeave}
+use Rattle.csm.specs.Said.{SaysFirstPending, SevenAndEightAlwaysLeave, ResetIsSaidAlone}
 use Rattle.csm.specs.Means.{EveryStateMeans, EveryTimerMeans, EveryShutdownMeans}
 use Rattle.csm.proofs.FirstLaws as first
 use Rattle.csm.proofs.MeansLaws as means
@@ -34,3 +34,6 @@ says-first-pending = said.says-first-pending
 
 pub seven-and-eight : SevenAndEightAlwaysLeave
 seven-and-eight = said.seven-and-eight
+
+pub reset-is-said-alone : ResetIsSaidAlone
+reset-is-said-alone = said.reset-is-said-alone

@@ -18,7 +18,7 @@ use Rattle.csm.specs.State.{gives}
 use Rattle.csm.specs.Means.{servesData}
 use Rattle.csm.specs.Turn.{turnStep, dataFirst}
 use Rattle.csm.specs.Row.{rowOf}
-use Rattle.csm.specs.Said.{Turn, saidNow, saidBy, rwGone, SevenAndEightAlwaysLeave, SaysFirstPending}
+use Rattle.csm.specs.Said.{Turn, saidNow, saidBy, rwGone, SevenAndEightAlwaysLeave, SaysFirstPending, ResetIsSaidAlone}
 use Rattle.csm.specs.declared.pending.PendingRxSet.{PendingRxSet}
 use Rattle.csm.specs.declared.turn.RxStep.{RxStep}
 use Rattle.csm.specs.declared.turn.RxStep.the-variants.{Rst, Response, Request, OutOfState, AskCredit, NoBuffer, Data, Close, Fail, Update, Nothing}
@@ -151,3 +151,7 @@ pub says-first-pending : SaysFirstPending
 says-first-pending t =
     let p = t .pending in
     says (t .expiry) (t .wait) (t .linger) (p .rst) (p .response) (p .request) (p .rw) (p .«credit_update») (t .state) (t .noCredit) (t .present) (t .answer)
+
+pub reset-is-said-alone : ResetIsSaidAlone
+unfolding turnStep when
+reset-is-said-alone t e = rw e

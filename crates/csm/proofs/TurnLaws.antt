@@ -106,13 +106,13 @@ absent-reads-not p s noCredit present e = rw e (and-false (dataFirst p && gives 
 
 -- ---- what becomes of the state
 
--- only a RESPONSE opens
-pub data NotOpening : After → Type 0 where
-  same-state : NotOpening Same
-  closes-state : NotOpening Closes
+-- only a RESPONSE opens, and only where data may go to the guest does a turn close
+pub data NotOpening (up : Bool) : After → Type 0 where
+  same-state : NotOpening up Same
+  closes-state : up ≡ true → NotOpening up Closes
 
 no-opening : (request w up noCredit present u : Bool) (a : ReadAnswer)
-    → NotOpening (rowOf (when request Request (when w (dataStep up noCredit present (readStep a (updateStep u))) (updateStep u))) .after)
+    → NotOpening up (rowOf (when request Request (when w (dataStep up noCredit present (readStep a (updateStep u))) (updateStep u))) .after)
 unfolding when
 no-opening true w up noCredit present u a = same-state
 no-opening false false up noCredit present true a = same-state
@@ -122,8 +122,8 @@ no-opening false true true true present u a = same-state
 no-opening false true true false false u a = same-state
 no-opening false true true false true u (Count n) = by-count (eqb n 0)
   where
-    by-count : (end : Bool) → NotOpening (rowOf (when end Close (Data n)) .after)
-    by-count true = closes-state
+    by-count : (end : Bool) → NotOpening true (rowOf (when end Close (Data n)) .after)
+    by-count true = closes-state refl
     by-count false = same-state
 no-opening false true true false true true WouldBlock = same-state
 no-opening false true true false true false WouldBlock = same-state
@@ -134,8 +134,8 @@ unfolding turnStep
 reset-stays p s noCredit present a t = ap (λ (x : RxStep). rowOf x .after) (when-true Rst _ _ t)
 
 pub response-alone-opens : (p : PendingRxSet) (s : ConnState) (noCredit present : Bool) (a : ReadAnswer) → p .rst ≡ false → p .response ≡ false
-    → NotOpening (rowOf (turnStep p s noCredit present a) .after)
+    → NotOpening (gives s) (rowOf (turnStep p s noCredit present a) .after)
 unfolding turnStep
 response-alone-opens p s noCredit present a t u =
-    subst (λ (x : RxStep). NotOpening (rowOf x .after)) (sym (when-false Rst _ _ t ∙ when-false Response _ _ u))
+    subst (λ (x : RxStep). NotOpening (gives s) (rowOf x .after)) (sym (when-false Rst _ _ t ∙ when-false Response _ _ u))
     (no-opening (p .request) (p .rw) (gives s) noCredit present (p .«credit_update») a)

@@ -1,10 +1,14 @@
 -- The indications that are pending (01, `recv_pkt`; csm/mod.rs, PendingRxSet). Assumes nothing.
-use mathlib.Core.Bool.{Bool, false, not, _&&_, _||_}
+use mathlib.Core.Bool.{Bool, true, false, not, _&&_, _||_}
 use Rattle.csm.specs.declared.pending.PendingRxSet.{PendingRxSet}
 
 -- no indication is pending
 abbrev pub none : PendingRxSet
 none = record { request = false; response = false; rst = false; rw = false; «credit_update» = false }
+
+-- what a kill leaves pending (2026-07): the reset, and nothing else
+abbrev pub resetOnly : PendingRxSet
+resetOnly = record { request = false; response = false; rst = true; rw = false; «credit_update» = false }
 
 -- any indication is pending
 unfoldable pub isPending : PendingRxSet → Bool

@@ -11,7 +11,7 @@ use Rattle.defs.specs.Stream.{readCounted}
 use Rattle.defs.specs.declared.stream.ReadAnswer.{ReadAnswer}
 use Rattle.defs.specs.declared.stream.ReadAnswer.the-variants.{Count, WouldBlock, Failed}
 use Rattle.packet.specs.Uapi.{opRequest, opResponse, opRst, opShutdown, opRw, opCreditUpdate, opCreditRequest}
-use Rattle.csm.specs.Pending.{none, leftOf}
+use Rattle.csm.specs.Pending.{none, resetOnly, leftOf}
 use Rattle.csm.specs.Means.{servesData}
 use Rattle.csm.specs.Turn.{turnStep}
 use Rattle.csm.specs.Row.{rowOf, afterwards, armed}
@@ -167,6 +167,12 @@ pub record SevenAndEightLeave (t : Turn) : Type 0 where
 
 abbrev pub SevenAndEightAlwaysLeave : Type 0
 SevenAndEightAlwaysLeave = (t : Turn) → SevenAndEightLeave t
+
+-- 2026-07: where only the reset is pending a turn says RST, whatever the state, moves neither state nor timer, and leaves nothing pending
+abbrev pub ResetIsSaidAlone : Type 0
+ResetIsSaidAlone =
+    (t : Turn) → t .pending ≡ resetOnly
+    → saidBy t ≡ record { op = opRst; len = 0; flags = 0; pending = none; tells = false; state = t .state; expiry = t .expiry }
 
 -- ---- the same as facts about what is first
 

@@ -5,7 +5,7 @@ use Rattle.defs.specs.Reading.{Hold}
 use Rattle.defs.specs.Edges.{readingE as ruleE, readingH as formulaH}
 use Rattle.packet.specs.Edges.{readingA as bytesOfA}
 use Rattle.txbuf.specs.Edges.{readingBCD as ringBCD, readingF as ringF}
-use Rattle.rules.specs.Edges.{readingA, readingBCD, readingE, readingF, readingG, readingH, readingI, readingK}
+use Rattle.rules.specs.Edges.{readingA, readingBCD, readingE, readingF, readingG, readingH, readingI, readingK, readingL}
 use Rattle.muxer_killq.specs.Edges.{readingI as popI}
 use Rattle.muxer_rxq.specs.Edges.{readingJ}
 use Rattle.defs.proofs.Readings.{hold-append}
@@ -18,7 +18,7 @@ use Rattle.muxer_rxq.proofs.Promises.{edges-hold as rxq-edges}
 use Rattle.readings.specs.Readings.{Lettered, lettered, joined, readings, EachLetter, NoneLeftOut, ReadingsHold}
 
 each-letter : EachLetter
-unfolding lettered bytesOfA ringBCD ruleE ringF formulaH readingA readingBCD readingE readingF readingG readingH readingI readingK popI readingJ
+unfolding lettered bytesOfA ringBCD ruleE ringF formulaH readingA readingBCD readingE readingF readingG readingH readingI readingK readingL popI readingJ
 each-letter = refl
 
 pub none-left-out : NoneLeftOut
@@ -44,4 +44,4 @@ readings-hold =
     hold-joined lettered
     (packet-edges .a and txbuf-edges .bcd and defs-edges .e and txbuf-edges .f and defs-edges .h
     and connection-edges .a and connection-edges .bcd and connection-edges .e and connection-edges .f and connection-edges .g and connection-edges .h and connection-edges .i
-    and connection-edges .k and killq-edges .i and rxq-edges .j and tt)
+    and connection-edges .k and connection-edges .l and killq-edges .i and rxq-edges .j and tt)

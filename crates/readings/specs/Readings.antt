@@ -9,7 +9,7 @@ use Rattle.defs.specs.Reading.{Reading, Hold}
 use Rattle.defs.specs.Edges.{readingE as ruleE, readingH as formulaH}
 use Rattle.packet.specs.Edges.{readingA as bytesOfA}
 use Rattle.txbuf.specs.Edges.{readingBCD as ringBCD, readingF as ringF}
-use Rattle.rules.specs.Edges.{readingA, readingBCD, readingE, readingF, readingG, readingH, readingI, readingK}
+use Rattle.rules.specs.Edges.{readingA, readingBCD, readingE, readingF, readingG, readingH, readingI, readingK, readingL}
 use Rattle.muxer_killq.specs.Edges.{readingI as popI}
 use Rattle.muxer_rxq.specs.Edges.{readingJ}
 
@@ -27,7 +27,7 @@ unfoldable pub lettered : List Lettered
 lettered =
     ("a" is bytesOfA) ∷ ("bcd" is ringBCD) ∷ ("e" is ruleE) ∷ ("f" is ringF) ∷ ("h" is formulaH)
     ∷ ("a" is readingA) ∷ ("bcd" is readingBCD) ∷ ("e" is readingE) ∷ ("f" is readingF) ∷ ("g" is readingG) ∷ ("h" is readingH) ∷ ("i" is readingI)
-    ∷ ("k" is readingK) ∷ ("i" is popI) ∷ ("j" is readingJ) ∷ []
+    ∷ ("k" is readingK) ∷ ("l" is readingL) ∷ ("i" is popI) ∷ ("j" is readingJ) ∷ []
 
 abbrev pub joined : List Lettered → List Reading
 joined [] = []
@@ -45,14 +45,14 @@ abbrev pub EachLetter : Type 0
 EachLetter =
     counted lettered
     ≡ ("a", 2) ∷ ("bcd", 3) ∷ ("e", 3) ∷ ("f", 4) ∷ ("h", 1)
-    ∷ ("a", 2) ∷ ("bcd", 7) ∷ ("e", 3) ∷ ("f", 6) ∷ ("g", 2) ∷ ("h", 3) ∷ ("i", 2) ∷ ("k", 6)
+    ∷ ("a", 2) ∷ ("bcd", 7) ∷ ("e", 3) ∷ ("f", 6) ∷ ("g", 2) ∷ ("h", 3) ∷ ("i", 2) ∷ ("k", 6) ∷ ("l", 3)
     ∷ ("i", 2) ∷ ("j", 5) ∷ []
 
 -- none is left out, and none stands for another: the letters with their numbers, and the readings of each crate in turn
 pub record NoneLeftOut : Type 1 where
   pub letters : EachLetter
   pub crates : map (λ (l : Lettered). l .list) lettered
-      ≡ bytesOfA ∷ ringBCD ∷ ruleE ∷ ringF ∷ formulaH ∷ readingA ∷ readingBCD ∷ readingE ∷ readingF ∷ readingG ∷ readingH ∷ readingI ∷ readingK ∷ popI ∷ readingJ ∷ []
+      ≡ bytesOfA ∷ ringBCD ∷ ruleE ∷ ringF ∷ formulaH ∷ readingA ∷ readingBCD ∷ readingE ∷ readingF ∷ readingG ∷ readingH ∷ readingI ∷ readingK ∷ readingL ∷ popI ∷ readingJ ∷ []
 
 -- every starred reading is what the specifications say
 abbrev pub ReadingsHold : Type 0

@@ -1,2 +1,2 @@
 // 01's starred readings: specs/Readings.antt has the one list and the one statement that all hold.
-// The program run_readings runs them, and those without a star, through the code.
+// The program run_readings runs them through the code.

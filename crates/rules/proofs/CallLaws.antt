@@ -14,10 +14,10 @@ use Rattle.defs.specs.Credit.{peerNeedsCreditUpdate}
 use Rattle.defs.specs.Ladder.{doorOf, lateOf, lowestOf}
 use Rattle.defs.specs.Look.{FlagLeft, flagOf}
 use Rattle.defs.specs.Promises.{Refuses, Exactly}
-use Rattle.defs.specs.Stream.{counted}
+use Rattle.defs.specs.Stream.{counted, failed}
 use Rattle.defs.specs.declared.answer.Answer.{Answer}
 use Rattle.defs.specs.declared.answer.Answer.the-variants.{Done}
-use Rattle.defs.proofs.Basics.{never, both, true-or-false, positive, or-true, or-false}
+use Rattle.defs.proofs.Basics.{never, both, true-or-false, positive, or-false}
 use Rattle.defs.proofs.AnswerLaws.{done-is-done, is-done, done-passes, when-done, when-not-done, when-refused, number-zero, answer-told, left-done, left-kept}
 use Rattle.defs.proofs.LadderLaws.{lowest-passed, door-passed}
 use Rattle.defs.proofs.LookLaws.{flag-done}
@@ -45,7 +45,7 @@ use Rattle.rules.specs.Raw.{RawLeft, rawAnswer, rawDone, rawKept, rawOf}
 use Rattle.rules.specs.Receive.{RecvIn, RecvLeft, spokenOf, receivedOf, headerOf, recvDoor, recvRefusal, refusalOf, nextStep, recvDone, recvKept, recvOf}
 use Rattle.rules.specs.Send.{SendPlan, heardOf, movedOf, updatedOf, onResponse, onShutdown, onCreditRequest, onData, ruleOf, goesOf, planOf, killsOf, SendIn, SendLeft, pktOf, sendPlan, sendAnswer, sendKills, sendCarried, sendDone, sendKept, sendOf, accepted}
 use Rattle.rules.specs.Notify.{NotifyIn, NotifyLeft, seenOf, settledOf, drainedOf, due, flushed, notifyAnswer, notifyDone, notifyKept, notifyOf}
-use Rattle.rules.specs.Outcomes.{Addressed, HeaderTells, initialised, SevenAndEightLeave, turnOf, headerNow, connNow, EveryTurnLeaves, RefusalsChangeNothing, EverySendHears, meetsData, writesNow, takenNow, killsNow, acceptedNow, EverySendAccepts, fallsShort, UpdateIsDue, KillMeans, EveryKillKills, EveryPollPolls, ExpiryMeans, LooksTell, RefusedTellsNothing}
+use Rattle.rules.specs.Outcomes.{Addressed, HeaderTells, initialised, SevenAndEightLeave, turnOf, headerNow, connNow, EveryTurnLeaves, RefusalsChangeNothing, EverySendHears, meetsData, writesNow, takenNow, killsNow, acceptedNow, EverySendAccepts, fallsShort, UpdateIsDue, Dead, KillMeans, EveryKillKills, EveryPollPolls, ExpiryMeans, LooksTell, RefusedTellsNothing}
 use Rattle.rules.specs.declared.record.VsockConnection.{VsockConnection}
 use Rattle.rules.proofs.RecordLaws.{sound-means}
 use Rattle.rules.proofs.ReceiveLaws.{passed}
@@ -224,34 +224,21 @@ settled-due c empty e =
     ends : {b : Bool} → bothOff (c .state) && empty ≡ b → shutBoth (c .state) && eqb (usedOf (c .«tx_buf»)) 0 ≡ b
     ends t = ap (λ (x : Bool). x && eqb (usedOf (c .«tx_buf»)) 0) (sym (every-state-means (c .state) .both)) ∙ ap (λ (x : Bool). bothOff (c .state) && x) (sym e) ∙ t
 
--- the record that settles has the flushed ring, and its update is the one that was
-flushed-ring : (c : VsockConnection) (ring : TxBuf) (n : ℕ) (fails : Bool) → when fails (killedOf (movedOf c ring n)) (movedOf c ring n) .«tx_buf» ≡ ring
-unfolding killedOf movedOf withState
-flushed-ring c ring n fails = when-holds (λ (x : VsockConnection). x .«tx_buf» ≡ ring) fails _ _ (λ t. refl) (λ t. refl)
-
-flushed-update : (c : VsockConnection) (readable : Bool) (ring : TxBuf) (n : ℕ) (fails : Bool)
-    → when fails (killedOf (movedOf (seenOf c readable) ring n)) (movedOf (seenOf c readable) ring n) .«pending_rx» .«credit_update» ≡ c .«pending_rx» .«credit_update»
-unfolding killedOf movedOf seenOf withState
-flushed-update c readable ring n fails =
-    let u = c .«pending_rx» .«credit_update» in
-    when-holds (λ (x : VsockConnection). x .«pending_rx» .«credit_update» ≡ u) fails _ _ (λ t. or-false (u || false) ∙ or-false u) (λ t. or-false u)
-
--- so one is due after a flush, whether that killed or not
-drained-due : (c : VsockConnection) (readable : Bool) (ring : TxBuf) (n : ℕ) (fails : Bool)
-    → DueOn (c .«pending_rx» .«credit_update») (drainedOf (seenOf c readable) ring n (quiet ring) fails)
-unfolding drainedOf
-drained-due c readable ring n fails =
-    let x = when fails (killedOf (movedOf (seenOf c readable) ring n)) (movedOf (seenOf c readable) ring n) in
-    subst (λ (b : Bool). DueOn b (settledOf x (quiet ring))) (flushed-update c readable ring n fails)
-    (settled-due x (quiet ring) (ap quiet (sym (flushed-ring (seenOf c readable) ring n fails))))
+-- so one is due after a flush that did not kill
+flushed-due : (c : VsockConnection) (readable : Bool) (ring : TxBuf) (n : ℕ)
+    → DueOn (c .«pending_rx» .«credit_update») (settledOf (movedOf (seenOf c readable) ring n) (quiet ring))
+unfolding movedOf seenOf withState
+flushed-due c readable ring n =
+    let x = movedOf (seenOf c readable) ring n in
+    subst (λ (b : Bool). DueOn b (settledOf x (quiet ring))) (or-false (c .«pending_rx» .«credit_update»)) (settled-due x (quiet ring) refl)
 
 notify-due : (i : NotifyIn) (o : NotifyLeft) → o ≡ notifyOf i → o .answer .number ≡ 0 → i .writable ≡ true → 1 ≤ usedOf (i .conn .«tx_buf»)
-    → DueOn (i .conn .«pending_rx» .«credit_update») (o .conn)
-unfolding notifyOf notifyDone notifyKept quiet
-notify-due i o says n w l =
+    → failed (i .answers .first) ≡ false → DueOn (i .conn .«pending_rx» .«credit_update») (o .conn)
+unfolding notifyOf notifyDone notifyKept drainedOf quiet
+notify-due i o says n w l b =
     let d : due i ≡ true = rw w (ap not (ne-eqb (usedOf (i .conn .«tx_buf»)) 0 (λ e. omega arith))) in
-    let z = ap (λ (y : NotifyLeft). y .conn) (left-done (λ (y : NotifyLeft). y .answer) (notifyAnswer i) (notifyDone i) (notifyKept i) o refl says n) ∙ when-true _ _ _ d in
-    subst (DueOn (i .conn .«pending_rx» .«credit_update»)) (sym z) (drained-due (i .conn) (i .readable) (flushed i .ring) (flushed i .count) _)
+    let z = ap (λ (y : NotifyLeft). y .conn) (left-done (λ (y : NotifyLeft). y .answer) (notifyAnswer i) (notifyDone i) (notifyKept i) o refl says n) ∙ when-true _ _ _ d ∙ when-false _ _ _ b in
+    subst (DueOn (i .conn .«pending_rx» .«credit_update»)) (sym z) (flushed-due (i .conn) (i .readable) (flushed i .ring) (flushed i .count))
 
 pub update-is-due : UpdateIsDue
 update-is-due = record { send = send-due; notify = notify-due }
@@ -374,15 +361,14 @@ every-turn-leaves i o says k =
 
 -- ---- killing, polled events, timers
 
+pub killed-dead : (c : VsockConnection) → Dead (killedOf c)
+unfolding killedOf withState
+killed-dead c = record { state = refl; rst = refl; request = refl; response = refl; rw = refl; update = refl }
+
 killed-means : (c : VsockConnection) → KillMeans c (killedOf c)
 unfolding killedOf withState
 killed-means c = record {
-  state = refl;
-  rst = or-true (c .«pending_rx» .rst);
-  request = refl;
-  response = refl;
-  rw = or-false (c .«pending_rx» .rw);
-  update = or-false (c .«pending_rx» .«credit_update»);
+  dead = killed-dead c;
   expiry = refl;
   settings = refl;
   addresses = (refl, refl, refl, refl);

@@ -41,6 +41,7 @@ use Rattle.txbuf.proofs.Promises.{flush-takes-oldest}
 use Rattle.txbuf.specs.declared.record.TxBuf.{TxBuf}
 use Rattle.csm.specs.State.{isLocalInit, recvOff, sendOff, shutBy, bothOff, asks}
 use Rattle.csm.specs.Pending.{marked}
+use Rattle.csm.specs.declared.pending.PendingRxSet.{PendingRxSet}
 use Rattle.csm.specs.Timer.{isSet}
 use Rattle.csm.specs.Means.{takesData, shutBoth, answersRequest}
 use Rattle.csm.proofs.Promises.{every-state-means}
@@ -55,14 +56,14 @@ use Rattle.rules.specs.Raw.{RawLeft, rawDoor, rawAnswer, rawDone, rawKep
 use Rattle.rules.specs.Look.{lookAnswer, killOf}
 use Rattle.rules.specs.Send.{SendPlan, heardOf, movedOf, updatedOf, onResponse, onShutdown, onCreditRequest, onData, ruleOf, planOf, SendIn, SendLeft, sendPlan, sendAnswer, sendKills, sendCarried, sendDone, sendKept, sendOf, carried}
 use Rattle.rules.specs.Moves.{Numbers}
-use Rattle.rules.specs.Outcomes.{meetsData, writesNow, takenNow, killsNow, fallsShort}
-use Rattle.rules.specs.Common.{TimersArm, LastToldMoves}
-use Rattle.rules.specs.Leaves.{pushedOn, takenOff, shutsReceive, shutsSend, closedBy, closedNow, confirmed, dataKills, dataStays, stateNow, cleared, lingersNow, unlessRunning, timerNow, flushesNow, flushFails, flushEnds, SendLeaves, NotifyLeaves, EveryNotifyLeaves, Opened, OpeningMeans, AllZero, RefusedIsZero, EveryRawLeaves, EverySendLeaves}
+use Rattle.rules.specs.Outcomes.{meetsData, writesNow, takenNow, killsNow, fallsShort, Dead}
+use Rattle.rules.specs.Common.{KillsAlike, TimersArm, LastToldMoves}
+use Rattle.rules.specs.Leaves.{pushedOn, takenOff, shutsReceive, shutsSend, closedBy, closedNow, confirmed, dataKills, dataStays, unlessKilled, stateNow, cleared, lingersNow, unlessRunning, timerNow, flushesNow, flushFails, flushEnds, SendLeaves, NotifyLeaves, EveryNotifyLeaves, Opened, OpeningMeans, AllZero, RefusedIsZero, EveryRawLeaves, EverySendLeaves}
 use Rattle.rules.specs.declared.record.VsockConnection.{VsockConnection}
 use Rattle.rules.proofs.RecordLaws.{sound-over-ring}
 use Rattle.rules.proofs.AnswerLaws.{notify-told}
 use Rattle.rules.proofs.SendLaws.{passed}
-use Rattle.rules.proofs.CallLaws.{some, field-kept, every-turn-leaves, send-number, done-left, goes, plan-len, plan-written, kills-now, stays-out, rule-data}
+use Rattle.rules.proofs.CallLaws.{some, field-kept, every-turn-leaves, send-number, done-left, goes, plan-len, plan-written, kills-now, stays-out, rule-data, killed-dead, every-kill-kills}
 
 -- ---- tables
 
@@ -132,22 +133,34 @@ module _ (c : VsockConnection) (empty : Bool) (pkt : VsockPacketHdr) (p : SendPl
 
 -- ---- a packet
 
+-- the indications by what may be set besides, or, where the call kills, by the reset alone
+abbrev indicated : Bool → PendingRxSet → Bool → Bool → Bool → PendingRxSet
+indicated dies p rst rw update = record {
+  request = unlessKilled dies (p .request);
+  response = unlessKilled dies (p .response);
+  rst = p .rst || rst;
+  rw = unlessKilled dies (p .rw || rw);
+  «credit_update» = unlessKilled dies (p .«credit_update» || update);
+}
+
 -- the record after a packet by what it may move
-abbrev shaped : SendIn → ConnState → Timer → Bool → Bool → TxBuf → ℕ → VsockConnection
-shaped i s t rst update ring n =
+abbrev shaped : SendIn → ConnState → Timer → Bool → Bool → Bool → TxBuf → ℕ → VsockConnection
+shaped i s t dies rst update ring n =
     regrouped (i .conn) (record { alloc = decoded (i .hdr) .«buf_alloc»; fwd = decoded (i .hdr) .«fwd_cnt» }) (record { ring = ring; count = n })
-    (sentOf (i .conn)) (record { state = s; expiry = t; pending = marked (i .conn .«pending_rx») rst false update })
+    (sentOf (i .conn)) (record { state = s; expiry = t; pending = indicated dies (i .conn .«pending_rx») rst false update })
 
 record Shape (i : SendIn) (d : VsockConnection) : Type 0 where
   s : ConnState
   t : Timer
+  dies : Bool
   rst : Bool
   update : Bool
   ring : TxBuf
   n : ℕ
-  is : d ≡ shaped i s t rst update ring n
+  is : d ≡ shaped i s t dies rst update ring n
   state-is : s ≡ stateNow i
   timer-is : t ≡ timerNow i
+  dies-is : dies ≡ dataKills i
   rst-is : rst ≡ dataKills i || (eqb (decoded (i .hdr) .op) opShutdown && (shutBoth (closedNow i) && eqb (usedOf (i .conn .«tx_buf»)) 0))
   update-is : update ≡ (dataStays i && fallsShort d) || (eqb (decoded (i .hdr) .op) opCreditRequest && answersRequest (i .conn .state))
   ring-is : ring ≡ when (dataStays i) (pushedOn (i .conn .«tx_buf») (decoded (i .hdr) .len - takenNow i)) (i .conn .«tx_buf»)
@@ -164,19 +177,19 @@ module _ (i : SendIn) where
   not-met e = ap (λ (b : Bool). takesData (i .conn .state) && i .present && b) e ∙ and-false (takesData (i .conn .state) && i .present)
 
   -- where nothing is marked
-  unmarked : (s : ConnState) (t : Timer) → withState heard s t (i .conn .«pending_rx») ≡ shaped i s t false false (i .conn .«tx_buf») (i .conn .«fwd_cnt»)
+  unmarked : (s : ConnState) (t : Timer) → withState heard s t (i .conn .«pending_rx») ≡ shaped i s t false false false (i .conn .«tx_buf») (i .conn .«fwd_cnt»)
   unfolding heardOf withState
   unmarked s t = let p = i .conn .«pending_rx» in rw (or-false (p .rst), or-false (p .rw), or-false (p .«credit_update»))
 
   response-is : (b : Bool)
       → when b (withState heard Established Unset (i .conn .«pending_rx»)) heard
-      ≡ shaped i (when b Established (i .conn .state)) (when b Unset (i .conn .expiry)) false false (i .conn .«tx_buf») (i .conn .«fwd_cnt»)
+      ≡ shaped i (when b Established (i .conn .state)) (when b Unset (i .conn .expiry)) false false false (i .conn .«tx_buf») (i .conn .«fwd_cnt»)
   unfolding heardOf withState when
   response-is true = unmarked Established Unset
   response-is false = unmarked (i .conn .state) (i .conn .expiry)
 
   response-now : onResponse heard
-      ≡ shaped i (when (isLocalInit (i .conn .state)) Established (i .conn .state)) (when (isLocalInit (i .conn .state)) Unset (i .conn .expiry)) false false (i .conn .«tx_buf») (i .conn .«fwd_cnt»)
+      ≡ shaped i (when (isLocalInit (i .conn .state)) Established (i .conn .state)) (when (isLocalInit (i .conn .state)) Unset (i .conn .expiry)) false false false (i .conn .«tx_buf») (i .conn .«fwd_cnt»)
   unfolding onResponse heardOf
   response-now = response-is (isLocalInit (i .conn .state))
 
@@ -199,15 +212,15 @@ module _ (i : SendIn) where
   lingering-now = arms-is _ _ (i .conn .expiry) (i .clock + i .conn .settings .«shutdown_timeout») lingers-now
 
   shutdown-now : onShutdown heard (quiet (i .conn .«tx_buf»)) (decoded (i .hdr) .flags) (i .clock)
-      ≡ shaped i shut lingering (bothOff shut && eqb (usedOf (i .conn .«tx_buf»)) 0) false (i .conn .«tx_buf») (i .conn .«fwd_cnt»)
+      ≡ shaped i shut lingering false (bothOff shut && eqb (usedOf (i .conn .«tx_buf»)) 0) false (i .conn .«tx_buf») (i .conn .«fwd_cnt»)
   unfolding onShutdown heardOf withState quiet
   shutdown-now = refl
 
-  request-now : onCreditRequest heard ≡ shaped i (i .conn .state) (i .conn .expiry) false (asks (i .conn .state)) (i .conn .«tx_buf») (i .conn .«fwd_cnt»)
+  request-now : onCreditRequest heard ≡ shaped i (i .conn .state) (i .conn .expiry) false false (asks (i .conn .state)) (i .conn .«tx_buf») (i .conn .«fwd_cnt»)
   unfolding onCreditRequest heardOf withState
   request-now = refl
 
-  still : heard ≡ shaped i (i .conn .state) (i .conn .expiry) false false (i .conn .«tx_buf») (i .conn .«fwd_cnt»)
+  still : heard ≡ shaped i (i .conn .state) (i .conn .expiry) false false false (i .conn .«tx_buf») (i .conn .«fwd_cnt»)
   unfolding heardOf withState
   still = unmarked (i .conn .state) (i .conn .expiry)
 
@@ -218,6 +231,7 @@ module _ (i : SendIn) where
     by-response e = record {
       s = when (isLocalInit (i .conn .state)) Established (i .conn .state);
       t = when (isLocalInit (i .conn .state)) Unset (i .conn .expiry);
+      dies = false;
       rst = false;
       update = false;
       ring = i .conn .«tx_buf»;
@@ -225,6 +239,7 @@ module _ (i : SendIn) where
       is = rule-response heard _ (decoded (i .hdr)) _ _ _ _ e ∙ response-now;
       state-is = rw (m, e) (sym (confirmed-is (i .conn .state)));
       timer-is = rw e (sym (cleared-is (i .conn .state) (i .conn .expiry)));
+      dies-is = rw m;
       rst-is = rw (m, e);
       update-is = rw (m, e);
       ring-is = rw m;
@@ -236,6 +251,7 @@ module _ (i : SendIn) where
     by-shutdown e = record {
       s = shut;
       t = lingering;
+      dies = false;
       rst = bothOff shut && eqb (usedOf (i .conn .«tx_buf»)) 0;
       update = false;
       ring = i .conn .«tx_buf»;
@@ -243,6 +259,7 @@ module _ (i : SendIn) where
       is = rule-shutdown heard _ (decoded (i .hdr)) _ _ _ _ e ∙ shutdown-now;
       state-is = rw (m, e) shut-now;
       timer-is = rw e lingering-now;
+      dies-is = rw m;
       rst-is = rw (m, e) (rw shut-now (ap (λ (b : Bool). b && eqb (usedOf (i .conn .«tx_buf»)) 0) (every-state-means (closedNow i) .both)));
       update-is = rw (m, e);
       ring-is = rw m;
@@ -254,6 +271,7 @@ module _ (i : SendIn) where
     by-request e = record {
       s = i .conn .state;
       t = i .conn .expiry;
+      dies = false;
       rst = false;
       update = asks (i .conn .state);
       ring = i .conn .«tx_buf»;
@@ -261,6 +279,7 @@ module _ (i : SendIn) where
       is = rule-request heard _ (decoded (i .hdr)) _ _ _ _ e ∙ request-now;
       state-is = rw (m, e);
       timer-is = rw e;
+      dies-is = rw m;
       rst-is = rw (m, e);
       update-is = rw (m, e) (every-state-means (i .conn .state) .asks);
       ring-is = rw m;
@@ -273,6 +292,7 @@ module _ (i : SendIn) where
     by-other a b c e = record {
       s = i .conn .state;
       t = i .conn .expiry;
+      dies = false;
       rst = false;
       update = false;
       ring = i .conn .«tx_buf»;
@@ -280,6 +300,7 @@ module _ (i : SendIn) where
       is = e ∙ still;
       state-is = rw (m, a, b);
       timer-is = rw (a, b);
+      dies-is = rw m;
       rst-is = rw (m, b);
       update-is = rw (m, c);
       ring-is = rw m;
@@ -291,13 +312,13 @@ module _ (i : SendIn) where
     data-op : decoded (i .hdr) .op ≡ opRw
     data-op = eqb-true _ _ (both (takesData (i .conn .state) && i .present) _ m .1)
 
-    killed-form : (ring : TxBuf) (n : ℕ) → killedOf (movedOf heard ring n) ≡ shaped i Killed (i .conn .expiry) true false ring (wadd (i .conn .«fwd_cnt») n)
+    killed-form : (ring : TxBuf) (n : ℕ) → killedOf (movedOf heard ring n) ≡ shaped i Killed (i .conn .expiry) true true false ring (wadd (i .conn .«fwd_cnt») n)
     unfolding killedOf movedOf heardOf withState
-    killed-form ring n = refl
+    killed-form ring n = rw (or-true (i .conn .«pending_rx» .rst))
 
     updated-form : (ring : TxBuf) (n : ℕ)
         → updatedOf (movedOf heard ring n)
-        ≡ shaped i (i .conn .state) (i .conn .expiry) false
+        ≡ shaped i (i .conn .state) (i .conn .expiry) false false
         (ltb (wsub (ring .size) (wsub (wadd (i .conn .«fwd_cnt») n) (i .conn .«last_fwd_cnt_to_peer»))) (i .conn .settings .threshold)) ring (wadd (i .conn .«fwd_cnt») n)
     unfolding updatedOf movedOf heardOf withState peerNeedsCreditUpdate
     updated-form ring n = refl
@@ -311,6 +332,7 @@ module _ (i : SendIn) where
         record {
           s = Killed;
           t = i .conn .expiry;
+          dies = true;
           rst = true;
           update = false;
           ring = sendCarried i .ring;
@@ -318,6 +340,7 @@ module _ (i : SendIn) where
           is = rule-kills heard _ (decoded (i .hdr)) (sendPlan i) _ (sendCarried i .ring) _ data-op g x ∙ ap (λ (n : ℕ). killedOf (movedOf heard (sendCarried i .ring) n)) w ∙ killed-form (sendCarried i .ring) (takenNow i);
           state-is = rw (m, k);
           timer-is = rw data-op;
+          dies-is = rw (m, k);
           rst-is = rw (m, k);
           update-is = rw (m, k, data-op);
           ring-is = rw (m, k, x, g);
@@ -358,13 +381,14 @@ module _ (i : SendIn) where
         let w : sendPlan i .written ≡ takenNow i = plan-written i m in
         let ring : TxBuf = sendCarried i .ring in
         let short = ltb (wsub (ring .size) (wsub (wadd (i .conn .«fwd_cnt») (takenNow i)) (i .conn .«last_fwd_cnt_to_peer»))) (i .conn .settings .threshold) in
-        let z : by ≡ shaped i (i .conn .state) (i .conn .expiry) false short ring (wadd (i .conn .«fwd_cnt») (takenNow i)) =
+        let z : by ≡ shaped i (i .conn .state) (i .conn .expiry) false false short ring (wadd (i .conn .«fwd_cnt») (takenNow i)) =
         ap (λ (b : Bool). ruleOf heard (quiet (i .conn .«tx_buf»)) (decoded (i .hdr)) (sendPlan i) b ring (i .clock)) x
         ∙ rule-data heard _ (decoded (i .hdr)) (sendPlan i) ring _ data-op g
         ∙ ap (λ (n : ℕ). updatedOf (movedOf heard ring n)) w ∙ updated-form ring (takenNow i) in
         record {
           s = i .conn .state;
           t = i .conn .expiry;
+          dies = false;
           rst = false;
           update = short;
           ring = ring;
@@ -372,6 +396,7 @@ module _ (i : SendIn) where
           is = z;
           state-is = rw (m, k, data-op);
           timer-is = rw data-op;
+          dies-is = rw (m, k);
           rst-is = rw (m, k, data-op);
           update-is = first-part (dataStays i) _ _ _ short (rw (m, k)) (ap (λ (o : ℕ). eqb o opCreditRequest) data-op) (ap fallsShort z);
           ring-is = rw (m, k) (pushed-ring d k);
@@ -461,6 +486,8 @@ leaves : (i : SendIn) (d : VsockConnection) (o : SendLeft) → Shape i d → o .
     → o .out ≡ when (meetsData i) (take (takenNow i) (take (decoded (i .hdr) .len) (i .buf)) ++ drop (takenNow i) (i .out)) (i .out) → SendLeaves i o
 leaves i d o h e s x =
     let z = e ∙ h .is in
+    let p : PendingRxSet = i .conn .«pending_rx» in
+    let kept : (x : Bool) → unlessKilled (h .dies) x ≡ unlessKilled (dataKills i) x = λ x. ap (λ (b : Bool). unlessKilled b x) (h .dies-is) in
     record {
       self = record {
         settings = ap (λ (c : VsockConnection). c .settings) z;
@@ -468,13 +495,14 @@ leaves i d o h e s x =
         ports = (ap (λ (c : VsockConnection). c .«local_port») z, ap (λ (c : VsockConnection). c .«peer_port») z);
       };
       state = ap (λ (c : VsockConnection). c .state) z ∙ h .state-is;
-      request = ap (λ (c : VsockConnection). c .«pending_rx» .request) z;
-      response = ap (λ (c : VsockConnection). c .«pending_rx» .response) z;
-      rw = ap (λ (c : VsockConnection). c .«pending_rx» .rw) z ∙ or-false (i .conn .«pending_rx» .rw);
-      rst = ap (λ (c : VsockConnection). c .«pending_rx» .rst) z ∙ ap (λ (b : Bool). i .conn .«pending_rx» .rst || b) (h .rst-is);
+      request = ap (λ (c : VsockConnection). c .«pending_rx» .request) z ∙ kept (p .request);
+      response = ap (λ (c : VsockConnection). c .«pending_rx» .response) z ∙ kept (p .response);
+      rw = ap (λ (c : VsockConnection). c .«pending_rx» .rw) z ∙ kept (p .rw || false) ∙ ap (unlessKilled (dataKills i)) (or-false (p .rw));
+      rst = ap (λ (c : VsockConnection). c .«pending_rx» .rst) z ∙ ap (λ (b : Bool). p .rst || b) (h .rst-is);
       update =
           ap (λ (c : VsockConnection). c .«pending_rx» .«credit_update») z
-          ∙ ap (λ (b : Bool). i .conn .«pending_rx» .«credit_update» || b)
+          ∙ kept (p .«credit_update» || h .update)
+          ∙ ap (λ (b : Bool). unlessKilled (dataKills i) (p .«credit_update» || b))
           (h .update-is ∙ ap (λ (c : VsockConnection). (dataStays i && fallsShort c) || (eqb (decoded (i .hdr) .op) opCreditRequest && answersRequest (i .conn .state))) (sym e));
       ring = ap (λ (c : VsockConnection). c .«tx_buf») z ∙ h .ring-is;
       store = s;
@@ -498,10 +526,7 @@ Keeps c d = (d .expiry ≡ c .expiry) × (d .«last_fwd_cnt_to_peer» ≡ c .«l
 flush-keeps : (c : VsockConnection) (readable : Bool) (ring : TxBuf) (n : ℕ) (empty fails : Bool) → Keeps c (drainedOf (seenOf c readable) ring n empty fails)
 unfolding drainedOf settledOf killedOf updatedOf movedOf seenOf withState
 flush-keeps c readable ring n empty fails =
-    let m = movedOf (seenOf c readable) ring n in
-    let x = when fails (killedOf m) m in
-    let k : Keeps c x = when-holds (Keeps c) fails _ _ (λ t. (refl, refl)) (λ t. (refl, refl)) in
-    when-holds (Keeps c) (bothOff (x .state) && empty) _ _ (λ t. k) (λ t. k)
+    when-holds (Keeps c) fails _ _ (λ t. (refl, refl)) (λ t. when-holds (Keeps c) (bothOff (c .state) && empty) _ _ (λ u. (refl, refl)) (λ u. (refl, refl)))
 
 event-keeps : (i : NotifyIn) (o : NotifyLeft) → o ≡ notifyOf i → Keeps (i .conn) (o .conn)
 unfolding notifyOf notifyDone notifyKept seenOf withState
@@ -516,9 +541,9 @@ sum-none true u x y e f = rw (e, f)
 sum-none false u x y e f = rw f
 
 -- the record after an event by what it may move
-abbrev noted : VsockConnection → TxBuf → ℕ → ConnState → Bool → Bool → Bool → VsockConnection
-noted c ring n s rst readable update =
-    regrouped c (peerOf c) (record { ring = ring; count = n }) (sentOf c) (record { state = s; expiry = c .expiry; pending = marked (c .«pending_rx») rst readable update })
+abbrev noted : VsockConnection → TxBuf → ℕ → ConnState → Bool → Bool → Bool → Bool → VsockConnection
+noted c ring n s dies rst readable update =
+    regrouped c (peerOf c) (record { ring = ring; count = n }) (sentOf c) (record { state = s; expiry = c .expiry; pending = indicated dies (c .«pending_rx») rst readable update })
 
 -- the threshold rule, with the ring and the count that a flush leaves
 abbrev shortOf : VsockConnection → TxBuf → ℕ → Bool
@@ -528,23 +553,23 @@ module _ (c : VsockConnection) (readable : Bool) (ring : TxBuf) (n : ℕ) where
   abbrev ahead : VsockConnection
   ahead = movedOf (seenOf c readable) ring n
 
-  drained-dead : (empty : Bool) → drainedOf (seenOf c readable) ring n empty true ≡ noted c ring (wadd (c .«fwd_cnt») n) Killed true readable (shortOf c ring (wadd (c .«fwd_cnt») n))
-  unfolding drainedOf settledOf killedOf updatedOf movedOf seenOf withState peerNeedsCreditUpdate when
-  drained-dead empty = simp (or-false, or-true)
+  drained-dead : (empty : Bool) → drainedOf (seenOf c readable) ring n empty true ≡ noted c ring (wadd (c .«fwd_cnt») n) Killed true true readable (shortOf c ring (wadd (c .«fwd_cnt») n))
+  unfolding drainedOf killedOf movedOf seenOf withState when
+  drained-dead empty = rw (or-true (c .«pending_rx» .rst))
 
   drained-alive : (empty : Bool)
       → drainedOf (seenOf c readable) ring n empty false
-      ≡ noted c ring (wadd (c .«fwd_cnt») n) (c .state) (bothOff (c .state) && empty) readable (not (bothOff (c .state) && empty) && shortOf c ring (wadd (c .«fwd_cnt») n))
+      ≡ noted c ring (wadd (c .«fwd_cnt») n) (c .state) false (bothOff (c .state) && empty) readable (not (bothOff (c .state) && empty) && shortOf c ring (wadd (c .«fwd_cnt») n))
   unfolding drainedOf settledOf updatedOf movedOf seenOf withState peerNeedsCreditUpdate when
   drained-alive empty = by-end (bothOff (c .state) && empty)
     where
       by-end : (b : Bool)
           → when b (withState ahead (ahead .state) (ahead .expiry) (marked (ahead .«pending_rx») true false false)) (updatedOf ahead)
-          ≡ noted c ring (wadd (c .«fwd_cnt») n) (c .state) b readable (not b && shortOf c ring (wadd (c .«fwd_cnt») n))
+          ≡ noted c ring (wadd (c .«fwd_cnt») n) (c .state) false b readable (not b && shortOf c ring (wadd (c .«fwd_cnt») n))
       by-end true = simp (or-false, or-true)
       by-end false = simp or-false
 
-seen-form : (c : VsockConnection) (readable : Bool) → seenOf c readable ≡ noted c (c .«tx_buf») (c .«fwd_cnt») (c .state) false readable false
+seen-form : (c : VsockConnection) (readable : Bool) → seenOf c readable ≡ noted c (c .«tx_buf») (c .«fwd_cnt») (c .state) false false readable false
 unfolding seenOf withState
 seen-form c readable = refl
 
@@ -647,12 +672,14 @@ module _ (i : NotifyIn) where
     abbrev ends : ConnState → TxBuf → Bool
     ends s r = flushesNow i && (shutBoth s && eqb (usedOf r) 0)
 
-    by-form : (o : NotifyLeft) (r : TxBuf) (n : ℕ) (s : ConnState) (rst update : Bool) → o .conn ≡ noted (i .conn) r n s rst (i .readable) update
-        → s ≡ when (flushFails i) Killed (i .conn .state) → rst ≡ flushFails i || ends s r → update ≡ flushesNow i && (not (ends s r) && shortOf (i .conn) r n)
+    by-form : (o : NotifyLeft) (r : TxBuf) (n : ℕ) (s : ConnState) (dies rst update : Bool) → o .conn ≡ noted (i .conn) r n s dies rst (i .readable) update
+        → s ≡ when (flushFails i) Killed (i .conn .state) → dies ≡ flushFails i → rst ≡ flushFails i || ends s r → update ≡ flushesNow i && (not (ends s r) && shortOf (i .conn) r n)
         → r ≡ when (flushesNow i) (takenOff ring total) ring → n ≡ when (flushesNow i) (wadd (i .conn .«fwd_cnt») total) (i .conn .«fwd_cnt»)
         → o .out ≡ when (flushesNow i) (take total (held ring (i .store)) ++ drop total (i .out)) (i .out) → NotifyLeaves i o
-    by-form o r n s rst update z e g h j k x =
+    by-form o r n s dies rst update z e v g h j k x =
         let at : flushEnds i (o .conn) ≡ ends s r = ap (flushEnds i) z in
+        let p : PendingRxSet = i .conn .«pending_rx» in
+        let kept : (y : Bool) → unlessKilled dies y ≡ unlessKilled (flushFails i) y = λ y. ap (λ (b : Bool). unlessKilled b y) v in
         let short : fallsShort (o .conn) ≡ shortOf (i .conn) r n = ap fallsShort z in
         record {
           self = record {
@@ -662,13 +689,14 @@ module _ (i : NotifyIn) where
           };
           peer = (ap (λ (c : VsockConnection). c .«peer_buf_alloc») z, ap (λ (c : VsockConnection). c .«peer_fwd_cnt») z);
           state = ap (λ (c : VsockConnection). c .state) z ∙ e;
-          request = ap (λ (c : VsockConnection). c .«pending_rx» .request) z;
-          response = ap (λ (c : VsockConnection). c .«pending_rx» .response) z;
-          rw = ap (λ (c : VsockConnection). c .«pending_rx» .rw) z;
-          rst = ap (λ (c : VsockConnection). c .«pending_rx» .rst) z ∙ ap (λ (b : Bool). i .conn .«pending_rx» .rst || b) (g ∙ ap (λ (b : Bool). flushFails i || b) (sym at));
+          request = ap (λ (c : VsockConnection). c .«pending_rx» .request) z ∙ kept (p .request);
+          response = ap (λ (c : VsockConnection). c .«pending_rx» .response) z ∙ kept (p .response);
+          rw = ap (λ (c : VsockConnection). c .«pending_rx» .rw) z ∙ kept (p .rw || i .readable);
+          rst = ap (λ (c : VsockConnection). c .«pending_rx» .rst) z ∙ ap (λ (b : Bool). p .rst || b) (g ∙ ap (λ (b : Bool). flushFails i || b) (sym at));
           update =
               ap (λ (c : VsockConnection). c .«pending_rx» .«credit_update») z
-              ∙ ap (λ (b : Bool). i .conn .«pending_rx» .«credit_update» || b)
+              ∙ kept (p .«credit_update» || update)
+              ∙ ap (λ (b : Bool). unlessKilled (flushFails i) (p .«credit_update» || b))
               (h ∙ ap (λ (b : Bool). flushesNow i && (not b && shortOf (i .conn) r n)) (sym at) ∙ ap (λ (b : Bool). flushesNow i && (not (flushEnds i (o .conn)) && b)) (sym short));
           ring = ap (λ (c : VsockConnection). c .«tx_buf») z ∙ j;
           count = ap (λ (c : VsockConnection). c .«fwd_cnt») z ∙ k;
@@ -677,7 +705,7 @@ module _ (i : NotifyIn) where
         }
 
     -- an event that makes no flush
-    idle-conn : flushesNow i ≡ false → notifyDone i .conn ≡ noted (i .conn) ring (i .conn .«fwd_cnt») (i .conn .state) false (i .readable) false
+    idle-conn : flushesNow i ≡ false → notifyDone i .conn ≡ noted (i .conn) ring (i .conn .«fwd_cnt») (i .conn .state) false false (i .readable) false
     unfolding notifyDone
     idle-conn f = when-false _ _ (due i) (due-now ∙ f) ∙ seen-form (i .conn) (i .readable)
 
@@ -691,19 +719,19 @@ module _ (i : NotifyIn) where
         (λ (f : flushesNow i ≡ true).
         ⊎-elim
         (λ (b : failed (i .answers .first) ≡ true).
-        by-form (notifyDone i) (takenOff ring total) (count f) Killed true (shortOf (i .conn) (takenOff ring total) (count f))
-        (conn-left f ∙ rw b (drained-dead (i .conn) (i .readable) (takenOff ring total) total _)) (rw (f, b) (sym (when-true _ _ true refl))) (rw (f, b)) (rw f) (sym (when-true _ _ _ f)) (sym (when-true _ _ _ f))
+        by-form (notifyDone i) (takenOff ring total) (count f) Killed true true (shortOf (i .conn) (takenOff ring total) (count f))
+        (conn-left f ∙ rw b (drained-dead (i .conn) (i .readable) (takenOff ring total) total _)) (rw (f, b) (sym (when-true _ _ true refl))) (rw (f, b)) (rw (f, b)) (rw f) (sym (when-true _ _ _ f)) (sym (when-true _ _ _ f))
         (out-left f ∙ sym (when-true _ _ _ f)))
         (λ (b : failed (i .answers .first) ≡ false).
         let e : Bool = eqb (usedOf (takenOff ring total)) 0 in
         let t = every-state-means (i .conn .state) .both in
-        by-form (notifyDone i) (takenOff ring total) (count f) (i .conn .state) (bothOff (i .conn .state) && e) (not (bothOff (i .conn .state) && e) && shortOf (i .conn) (takenOff ring total) (count f))
-        (conn-left f ∙ rw b (drained-alive (i .conn) (i .readable) (takenOff ring total) total e)) (rw (f, b) (sym (when-false _ _ false refl)))
+        by-form (notifyDone i) (takenOff ring total) (count f) (i .conn .state) false (bothOff (i .conn .state) && e) (not (bothOff (i .conn .state) && e) && shortOf (i .conn) (takenOff ring total) (count f))
+        (conn-left f ∙ rw b (drained-alive (i .conn) (i .readable) (takenOff ring total) total e)) (rw (f, b) (sym (when-false _ _ false refl))) (rw (f, b))
         (rw (f, b) (ap (λ (x : Bool). x && e) t)) (rw f (ap (λ (x : Bool). not (x && e) && shortOf (i .conn) (takenOff ring total) (count f)) t)) (sym (when-true _ _ _ f)) (sym (when-true _ _ _ f))
         (out-left f ∙ sym (when-true _ _ _ f)))
         (true-or-false (failed (i .answers .first))))
         (λ (f : flushesNow i ≡ false).
-        by-form (notifyDone i) ring (i .conn .«fwd_cnt») (i .conn .state) false false (idle-conn f) (rw f (sym (when-false _ _ false refl))) (rw f) (rw f) (sym (when-false _ _ _ f)) (sym (when-false _ _ _ f))
+        by-form (notifyDone i) ring (i .conn .«fwd_cnt») (i .conn .state) false false false (idle-conn f) (rw f (sym (when-false _ _ false refl))) (rw f) (rw f) (rw f) (sym (when-false _ _ _ f)) (sym (when-false _ _ _ f))
         (idle-out f ∙ sym (when-false _ _ _ f)))
         (true-or-false (flushesNow i))
 
@@ -804,6 +832,27 @@ every-raw-leaves i o says = record {
         ap (λ (x : RawLeft). x .answer .failed) z ∙ stopped-kind _ false false _ _ _ (i .answers .first) (ap (λ (x : RawLeft). x .answer .number) (sym z) ∙ n),
       );
 }
+
+-- ---- killing
+
+data-dead : (i : SendIn) (o : SendLeft) → o ≡ sendOf i → o .answer .number ≡ 0 → dataKills i ≡ true → Dead (o .conn)
+unfolding sendDone planOf
+data-dead i o says n e =
+    let k = both (meetsData i) (killsNow i) e in
+    let z = ap (λ (x : SendLeft). x .conn) (done-left i o says n)
+    ∙ rule-kills (heard i) _ (decoded (i .hdr)) (sendPlan i) _ (sendCarried i .ring) _ (data-op i (k .0)) (goes i (k .0)) (kills-now i (k .0) ∙ k .1) in
+    subst Dead (sym z) (killed-dead _)
+
+flush-dead : (i : NotifyIn) (o : NotifyLeft) → o ≡ notifyOf i → o .answer .number ≡ 0 → flushFails i ≡ true → Dead (o .conn)
+unfolding notifyOf notifyDone notifyKept drainedOf
+flush-dead i o says n e =
+    let f = both (flushesNow i) (failed (i .answers .first)) e in
+    let z = ap (λ (x : NotifyLeft). x .conn) (left-done (λ (x : NotifyLeft). x .answer) (notifyAnswer i) (notifyDone i) (notifyKept i) o refl says n)
+    ∙ when-true _ _ _ (due-now i ∙ f .0) ∙ when-true _ _ _ (f .1) in
+    subst Dead (sym z) (killed-dead _)
+
+pub kills-alike : KillsAlike
+kills-alike = record { send = data-dead; notify = flush-dead; kill = λ c o says n. every-kill-kills c o says n .dead }
 
 -- ---- timers, and what the guest was told
 

@@ -13,17 +13,17 @@ use Rattle.txbuf.specs.Push.{runs, pushDone}
 use Rattle.txbuf.specs.Flush.{firstPiece, secondPiece, takenBy, overBy, endsBy, flushCount, flushOver, flushAnswer, flushDone, flushKept, flushOf}
 use Rattle.csm.specs.Turn.{turnStep, turnReads}
 use Rattle.rules.specs.Record.{okSettings, soundConn, soundOver, quiet, creditOf, withState, killedOf}
-use Rattle.rules.specs.Look.{evSetOf}
+use Rattle.rules.specs.Look.{evSetOf, killOf}
 use Rattle.rules.specs.Notify.{seenOf, absorbed, settledOf, drainedOf, notifyDoor, notifyAnswer, notifyDone, notifyKept, notifyOf}
 use Rattle.rules.specs.Offer.{notifyFlushes, notifyFirst, notifySecond}
 use Rattle.rules.specs.Open.{freshOf, openAnswer, peerInitOf, localInitOf}
 use Rattle.rules.specs.Receive.{spokenOf, receivedOf, headerOf, recvDoor, recvRefusal, recvDone, recvKept, recvOf}
 use Rattle.rules.specs.Send.{heardOf, movedOf, updatedOf, onResponse, onShutdown, onData, ruleOf, goesOf, planOf, killsOf, sendDoorOf, sendLate, carried, sendDoor, sendAnswer, sendDone, sendKept, sendOf}
-use Rattle.rules.specs.Edges.{readingA, readingBCD, readingE, readingF, readingG, readingH, readingI, readingK}
+use Rattle.rules.specs.Edges.{readingA, readingBCD, readingE, readingF, readingG, readingH, readingI, readingK, readingL}
 use Rattle.rules.specs.Promises.{EdgesHold}
 
 pub edges-hold : EdgesHold
-unfolding when isDone whenDone isRingSize isThreshold isTimeout isClock isPacketLength isHeaderLength doorOf lateOf lowestOf copied peerAvailCredit peerNeedsCreditUpdate encoded decoded soundRecord soundOf heldFrom held recordAnswer runs pushDone okSettings soundConn soundOver quiet creditOf withState killedOf evSetOf freshOf openAnswer peerInitOf localInitOf turnStep spokenOf receivedOf headerOf recvDoor turnReads recvRefusal recvDone recvKept recvOf heardOf movedOf updatedOf onResponse onShutdown onData ruleOf goesOf planOf killsOf sendDoorOf sendLate carried sendDoor takenBy overBy endsBy flushCount flushOver flushAnswer flushDone flushKept flushOf seenOf absorbed settledOf drainedOf notifyDoor notifyAnswer notifyDone notifyKept notifyOf firstPiece secondPiece notifyFlushes notifyFirst notifySecond clockAnswer flagOf sendAnswer sendDone sendKept sendOf readingA readingBCD readingE readingF readingG readingH readingI readingK
+unfolding when isDone whenDone isRingSize isThreshold isTimeout isClock isPacketLength isHeaderLength doorOf lateOf lowestOf copied peerAvailCredit peerNeedsCreditUpdate encoded decoded soundRecord soundOf heldFrom held recordAnswer runs pushDone okSettings soundConn soundOver quiet creditOf withState killedOf evSetOf freshOf openAnswer peerInitOf localInitOf turnStep spokenOf receivedOf headerOf recvDoor turnReads recvRefusal recvDone recvKept recvOf heardOf movedOf updatedOf onResponse onShutdown onData ruleOf goesOf planOf killsOf sendDoorOf sendLate carried sendDoor takenBy overBy endsBy flushCount flushOver flushAnswer flushDone flushKept flushOf seenOf absorbed settledOf drainedOf notifyDoor notifyAnswer notifyDone notifyKept notifyOf firstPiece secondPiece notifyFlushes notifyFirst notifySecond clockAnswer flagOf sendAnswer sendDone sendKept sendOf readingA readingBCD readingE readingF readingG readingH readingI readingK readingL killOf
 edges-hold = record {
   a = (refl, (refl, tt));
   bcd = (refl, (refl, (refl, (refl, (refl, (refl, (refl, tt)))))));
@@ -33,4 +33,5 @@ edges-hold = record {
   h = (refl, (refl, (refl, tt)));
   i = (refl, (refl, tt));
   k = (refl, (refl, (refl, (refl, (refl, (refl, tt))))));
+  l = (refl, (refl, (refl, tt)));
 }

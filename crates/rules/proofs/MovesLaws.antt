@@ -116,7 +116,7 @@ pub drain-counts : (c : VsockConnection) (readable : Bool) (ring : TxBuf) (n : �
 unfolding drainedOf
 drain-counts c readable ring n empty fails =
     let m = move-account (seenOf c readable) ring n ∙ ap (λ (a : Account). countedOn a ring n) (see-account c readable) in
-    settle-account _ empty ∙ either fails _ _ _ (kill-account _ ∙ m) m
+    either fails _ _ _ (kill-account _ ∙ m) (settle-account _ empty ∙ m)
 
 received-account : (c : VsockConnection) (row : Row) (clock : ℕ) → account (receivedOf c row clock) ≡ account c
 unfolding account receivedOf spokenOf

@@ -3,8 +3,8 @@ use Rattle.rules.specs.Promises.{SendMoves, NotifyMoves, SendCountedOff,
 use Rattle.rules.specs.Answers.{SoundMeans, OpenAnswers, LookAnswers, DoorAnswers, SendAnswers, RecvAnswers, NotifyAnswers, RawAnswers}
 use Rattle.rules.specs.Outcomes.{RefusalsChangeNothing, EverySendHears, EverySendAccepts, UpdateIsDue, EveryTurnLeaves, HeaderTells, SevenAndEightLeave, EveryKillKills, EveryPollPolls, ExpiryMeans, LooksTell, RefusedTellsNothing}
 use Rattle.rules.specs.Leaves.{EverySendLeaves, EveryNotifyLeaves, OpeningMeans, RefusedIsZero, EveryRawLeaves}
-use Rattle.rules.specs.Common.{TimersArm, ShutdownArms, LastToldMoves, UnreachedIsIgnored, SoundStaysSound, OffersMean, DataFitsPeer, NoRoomAsks}
-use Rattle.rules.specs.Runs.{EveryRunForwards, CutsDoNotMatter, FlagsOnlyGrow, ClosingIsTimed, Drains}
+use Rattle.rules.specs.Common.{KillsAlike, TimersArm, ShutdownArms, LastToldMoves, UnreachedIsIgnored, SoundStaysSound, OffersMean, DataFitsPeer, NoRoomAsks}
+use Rattle.rules.specs.Runs.{EveryRunForwards, CutsDoNotMatter, FlagsOnlyGrow, KilledStays, ClosingIsTimed, Drains}
 use Rattle.rules.specs.Stories.{StoriesHold}
 use Rattle.rules.proofs.Edges as edges
 use Rattle.rules.proofs.RecordLaws as records
@@ -134,6 +134,9 @@ data-fits-peer = common.data-fits-peer
 pub no-room-asks : NoRoomAsks
 no-room-asks = common.no-room-asks
 
+pub kills-alike : KillsAlike
+kills-alike = leaves.kills-alike
+
 pub timers-arm : TimersArm
 timers-arm = leaves.timers-arm
 
@@ -151,6 +154,9 @@ cuts-do-not-matter = forwarding.cuts-do-not-matter
 
 pub flags-only-grow : FlagsOnlyGrow
 flags-only-grow = flags.flags-only-grow
+
+pub killed-stays : KilledStays
+killed-stays = flags.killed-stays
 
 pub closing-is-timed : ClosingIsTimed
 closing-is-timed = timers.closing-is-timed

@@ -1,5 +1,5 @@
--- What calls have in common, said over what they were given and what they left: timers, what the guest was told, answers that are not reached, soundness,
--- room at the guest, and what they would offer. Assumes nothing.
+-- What calls have in common, said over what they were given and what they left: killing, timers, what the guest was told, answers that are not reached,
+-- soundness, room at the guest, and what they would offer. Assumes nothing.
 use Prim.Native.Nat.{ℕ, _+_, _-_, _%_, _^_, _<_, _≤_}
 use mathlib.Core.Path.{_≡_}
 use mathlib.Core.Bool.{Bool, true, false, _&&_}
@@ -30,10 +30,18 @@ use Rattle.rules.specs.Notify.{NotifyIn, NotifyLeft, NotifySays}
 use Rattle.rules.specs.Raw.{RawIn, RawLeft, RawSays}
 use Rattle.rules.specs.Offer.{SendGiven, SendDoorSays, SendWritesSays, SendOfferedSays, RecvGiven, RecvDoorSays, AskedLeft, RecvAskedSays, NotifyDoorSays, NotifyOfferedSays, NotifyNextSays, RawDoorSays, RawOfferedSays}
 use Rattle.rules.specs.Moves.{Numbers}
-use Rattle.rules.specs.Outcomes.{turnOf, Addressed}
-use Rattle.rules.specs.Leaves.{timerNow}
+use Rattle.rules.specs.Outcomes.{Dead, turnOf, Addressed}
+use Rattle.rules.specs.Leaves.{dataKills, flushFails, timerNow}
 use Rattle.rules.specs.Answers.{Sound, SoundOver, Writes, askedNow, Flushes}
 use Rattle.rules.specs.declared.record.VsockConnection.{VsockConnection}
+
+-- ---- killing
+
+-- 2026-07: whatever kills (a failed write or a full ring, a failed flush, `kill`) leaves Killed and only the reset pending
+pub record KillsAlike : Type 0 where
+  pub send : (i : SendIn) (o : SendLeft) → SendSays i o → o .answer .number ≡ 0 → dataKills i ≡ true → Dead (o .conn)
+  pub notify : (i : NotifyIn) (o : NotifyLeft) → NotifySays i o → o .answer .number ≡ 0 → flushFails i ≡ true → Dead (o .conn)
+  pub kill : (c : VsockConnection) (o : ConnLeft) → KillSays c o → o .answer .number ≡ 0 → Dead (o .conn)
 
 -- ---- timers, and what the guest was told
 

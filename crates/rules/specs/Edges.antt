@@ -1,4 +1,4 @@
--- The readings of 01 that a connection decides (R = 16, T = 4, timeouts 2,000): a to i, and k as 2026-08 has it. Assumes nothing.
+-- The readings of 01 that a connection decides (R = 16, T = 4, timeouts 2,000): a to i, k as 2026-08 has it and l as 2026-07 has it. Assumes nothing.
 use Prim.Native.Nat.{ℕ}
 use mathlib.Core.Bool.{Bool, true, false}
 use mathlib.Core.List.{List, [], _∷_, _++_}
@@ -10,7 +10,7 @@ use Rattle.defs.specs.declared.answer.Answer.the-variants.{Done}
 use Rattle.defs.specs.declared.stream.StreamAnswer.the-variants.{Count, WouldBlock, Failed}
 use Rattle.defs.specs.declared.stream.ReadAnswer.{ReadAnswer}
 use Rattle.defs.specs.declared.stream.ReadAnswer.the-variants.{Count as ReadCount, WouldBlock as ReadWouldBlock}
-use Rattle.packet.specs.Uapi.{opResponse, opShutdown, opRw, opCreditRequest, typeStream}
+use Rattle.packet.specs.Uapi.{opResponse, opRst, opShutdown, opRw, opCreditRequest, typeStream}
 use Rattle.packet.specs.Header.{decoded, encoded}
 use Rattle.packet.specs.Edges.{bytesA}
 use Rattle.txbuf.specs.Record.{held}
@@ -23,7 +23,7 @@ use Rattle.csm.specs.declared.timer.Timer.the-variants.{Unset, At}
 use Rattle.csm.specs.declared.state.ConnState.the-variants.{Established, LocalClosed, Killed}
 use Rattle.rules.specs.Record.{creditOf, withState}
 use Rattle.rules.specs.Open.{freshOf, peerInitOf, localInitOf, Opening}
-use Rattle.rules.specs.Look.{hasExpiredOf, evSetOf}
+use Rattle.rules.specs.Look.{hasExpiredOf, evSetOf, killOf}
 use Rattle.rules.specs.Notify.{NotifyLeft, notifyOf}
 use Rattle.rules.specs.Offer.{notifyFirst, notifySecond}
 use Rattle.rules.specs.Receive.{RecvLeft, recvOf}
@@ -217,3 +217,14 @@ readingK =
     ∷ (shuts (holding asking) 3 1000 .expiry reads At 2000)
     ∷ (shuts (holding asking) 3 2500 .expiry reads At 2000)
     ∷ []
+
+-- killed in PeerInit, then a turn to speak, then another
+abbrev reset : RecvLeft
+reset = turn (killOf (peerInitOf (opening 100) .conn) .conn) false ReadWouldBlock
+
+abbrev silent : RecvLeft
+silent = turn (reset .conn) false ReadWouldBlock
+
+-- l: RST; then answer 7, and Killed
+unfoldable pub readingL : List Reading
+readingL = (decoded (reset .hdr) .op reads opRst) ∷ (silent .answer .number reads 7) ∷ (silent .conn .state reads Killed) ∷ []

@@ -91,6 +91,10 @@ stateNow i =
     when (dataKills i) Killed
     (when (eqb (opOf i) opResponse) (confirmed (i .conn .state)) (when (eqb (opOf i) opShutdown) (closedNow i) (i .conn .state)))
 
+-- 2026-07: what would be pending, unless the call kills
+abbrev pub unlessKilled : Bool → Bool → Bool
+unlessKilled kills would = not kills && would
+
 -- the bytes of the packet
 abbrev payloadNow : SendIn → List ℕ
 payloadNow i = take (decoded (i .hdr) .len) (i .buf)
@@ -99,15 +103,16 @@ payloadNow i = take (decoded (i .hdr) .len) (i .buf)
 pub record SendLeaves (i : SendIn) (o : SendLeft) : Type 0 where
   pub self : SameSelf (i .conn) (o .conn)
   pub state : o .conn .state ≡ stateNow i
-  -- indications: a reset where data kills, or where a SHUTDOWN leaves both flags set and nothing is held; an update by the threshold rule after data that
-  -- doesn't kill, or by a CREDIT_REQUEST in a state that answers it; no other moves
-  pub request : o .conn .«pending_rx» .request ≡ i .conn .«pending_rx» .request
-  pub response : o .conn .«pending_rx» .response ≡ i .conn .«pending_rx» .response
-  pub rw : o .conn .«pending_rx» .rw ≡ i .conn .«pending_rx» .rw
+  -- indications: a reset where data kills, and then no other; a reset where a SHUTDOWN leaves both flags set and nothing is held; an update by the
+  -- threshold rule after data that doesn't kill, or by a CREDIT_REQUEST in a state that answers it; no other moves
+  pub request : o .conn .«pending_rx» .request ≡ unlessKilled (dataKills i) (i .conn .«pending_rx» .request)
+  pub response : o .conn .«pending_rx» .response ≡ unlessKilled (dataKills i) (i .conn .«pending_rx» .response)
+  pub rw : o .conn .«pending_rx» .rw ≡ unlessKilled (dataKills i) (i .conn .«pending_rx» .rw)
   pub rst : o .conn .«pending_rx» .rst
       ≡ i .conn .«pending_rx» .rst || (dataKills i || (eqb (opOf i) opShutdown && (shutBoth (closedNow i) && eqb (usedOf (i .conn .«tx_buf»)) 0)))
   pub update : o .conn .«pending_rx» .«credit_update»
-      ≡ i .conn .«pending_rx» .«credit_update» || ((dataStays i && fallsShort (o .conn)) || (eqb (opOf i) opCreditRequest && answersRequest (i .conn .state)))
+      ≡ unlessKilled (dataKills i)
+      (i .conn .«pending_rx» .«credit_update» || ((dataStays i && fallsShort (o .conn)) || (eqb (opOf i) opCreditRequest && answersRequest (i .conn .state))))
   -- of data that doesn't kill, what the stream did not take stands from the head on, each byte at its place modulo R; all else of ring and storage stays
   pub ring : o .conn .«tx_buf» ≡ when (dataStays i) (pushedOn (i .conn .«tx_buf») (decoded (i .hdr) .len - takenNow i)) (i .conn .«tx_buf»)
   pub store : o .store ≡ when (dataStays i) (written (i .store) (i .conn .«tx_buf» .size) (i .conn .«tx_buf» .head) (drop (takenNow i) (payloadNow i))) (i .store)
@@ -139,14 +144,14 @@ pub record NotifyLeaves (i : NotifyIn) (o : NotifyLeft) : Type 0 where
   pub self : SameSelf (i .conn) (o .conn)
   pub peer : (o .conn .«peer_buf_alloc» ≡ i .conn .«peer_buf_alloc») × (o .conn .«peer_fwd_cnt» ≡ i .conn .«peer_fwd_cnt»)
   pub state : o .conn .state ≡ when (flushFails i) Killed (i .conn .state)
-  -- indications: Rw by an in-event; a reset where the first write failed, or where the flush ends a connection that was shut both ways; an update where a
-  -- flush doesn't end it and the record falls short
-  pub request : o .conn .«pending_rx» .request ≡ i .conn .«pending_rx» .request
-  pub response : o .conn .«pending_rx» .response ≡ i .conn .«pending_rx» .response
-  pub rw : o .conn .«pending_rx» .rw ≡ i .conn .«pending_rx» .rw || i .readable
+  -- indications: a reset where the first write failed, and then no other; Rw by an in-event; a reset where the flush ends a connection that was shut both
+  -- ways; an update where a flush doesn't end it and the record falls short
+  pub request : o .conn .«pending_rx» .request ≡ unlessKilled (flushFails i) (i .conn .«pending_rx» .request)
+  pub response : o .conn .«pending_rx» .response ≡ unlessKilled (flushFails i) (i .conn .«pending_rx» .response)
+  pub rw : o .conn .«pending_rx» .rw ≡ unlessKilled (flushFails i) (i .conn .«pending_rx» .rw || i .readable)
   pub rst : o .conn .«pending_rx» .rst ≡ i .conn .«pending_rx» .rst || (flushFails i || flushEnds i (o .conn))
   pub update : o .conn .«pending_rx» .«credit_update»
-      ≡ i .conn .«pending_rx» .«credit_update» || (flushesNow i && (not (flushEnds i (o .conn)) && fallsShort (o .conn)))
+      ≡ unlessKilled (flushFails i) (i .conn .«pending_rx» .«credit_update» || (flushesNow i && (not (flushEnds i (o .conn)) && fallsShort (o .conn))))
   -- the bytes that the reached answers count leave from the tail, and are forwarded; nothing was sent to the guest
   pub ring : o .conn .«tx_buf» ≡ when (flushesNow i) (takenOff (i .conn .«tx_buf») (countedNow (i .conn .«tx_buf») (i .answers))) (i .conn .«tx_buf»)
   pub count : o .conn .«fwd_cnt» ≡ when (flushesNow i) (wadd (i .conn .«fwd_cnt») (countedNow (i .conn .«tx_buf») (i .answers))) (i .conn .«fwd_cnt»)

@@ -1,4 +1,4 @@
--- The calls that look at a connection, and `kill` (01, timers; as the Rust). Each answers 1 for a record that is not sound, those with a
+-- The calls that look at a connection (01, timers; as the Rust), and `kill` (2026-07). Each answers 1 for a record that is not sound, those with a
 -- clock 3 for one over 2^62, and then gives a fixed value. Assumes nothing.
 use Prim.Native.Nat.{ℕ}
 use mathlib.Core.Path.{_≡_}

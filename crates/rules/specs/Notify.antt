@@ -33,9 +33,9 @@ unfoldable pub settledOf : VsockConnection → Bool → VsockConnection
 settledOf c empty =
     when (bothOff (c .state) && empty) (withState c (c .state) (c .expiry) (marked (c .«pending_rx») true false false)) (updatedOf c)
 
--- a first-write failure kills, a would-block doesn't; add the count
+-- add the count; a first-write failure kills, and nothing settles after it (2026-07); a would-block doesn't kill
 unfoldable pub drainedOf : VsockConnection → TxBuf → ℕ → Bool → Bool → VsockConnection
-drainedOf c ring taken empty fails = settledOf (when fails (killedOf (movedOf c ring taken)) (movedOf c ring taken)) empty
+drainedOf c ring taken empty fails = when fails (killedOf (movedOf c ring taken)) (settledOf (movedOf c ring taken) empty)
 
 -- a flush is due: an out-event, and the ring isn't empty
 abbrev pub flushDue : VsockConnection → Bool → Bool

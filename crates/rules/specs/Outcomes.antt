@@ -85,12 +85,13 @@ EverySendAccepts = (i : SendIn) (o : SendLeft) → SendSays i o → AcceptedMean
 abbrev pub fallsShort : VsockConnection → Bool
 fallsShort c = ltb (wsub (c .«tx_buf» .size) (wsub (c .«fwd_cnt») (c .«last_fwd_cnt_to_peer»))) (c .settings .threshold)
 
--- 01: after data that does not kill, and after a flush unless it ends a connection that was shut both ways, an update is pending where one was before
--- or where the record that is left falls short
+-- 01: after data that does not kill, and after a flush that does not kill (2026-07) unless it ends a connection that was shut both ways, an update is
+-- pending where one was before or where the record that is left falls short
 pub record UpdateIsDue : Type 0 where
   pub send : (i : SendIn) (o : SendLeft) → SendSays i o → o .answer .number ≡ 0 → meetsData i ≡ true → killsNow i ≡ false
       → o .conn .«pending_rx» .«credit_update» ≡ i .conn .«pending_rx» .«credit_update» || fallsShort (o .conn)
   pub notify : (i : NotifyIn) (o : NotifyLeft) → NotifySays i o → o .answer .number ≡ 0 → i .writable ≡ true → 1 ≤ usedOf (i .conn .«tx_buf»)
+      → failed (i .answers .first) ≡ false
       → o .conn .«pending_rx» .«credit_update»
       ≡ i .conn .«pending_rx» .«credit_update» || (not (shutBoth (o .conn .state) && eqb (usedOf (o .conn .«tx_buf»)) 0) && fallsShort (o .conn))
 
@@ -178,14 +179,18 @@ SevenAndEightLeave = (i : RecvIn) (o : RecvLeft) → RecvSays i o → NothingSai
 
 -- ---- killing, the polled events, timers
 
--- as the Rust's `kill`: state Killed and a reset pending, and nothing else of the record moves
-pub record KillMeans (c d : VsockConnection) : Type 0 where
+-- 2026-07: state Killed, and of the five indications only the reset is pending
+pub record Dead (d : VsockConnection) : Type 0 where
   pub state : d .state ≡ Killed
   pub rst : d .«pending_rx» .rst ≡ true
-  pub request : d .«pending_rx» .request ≡ c .«pending_rx» .request
-  pub response : d .«pending_rx» .response ≡ c .«pending_rx» .response
-  pub rw : d .«pending_rx» .rw ≡ c .«pending_rx» .rw
-  pub update : d .«pending_rx» .«credit_update» ≡ c .«pending_rx» .«credit_update»
+  pub request : d .«pending_rx» .request ≡ false
+  pub response : d .«pending_rx» .response ≡ false
+  pub rw : d .«pending_rx» .rw ≡ false
+  pub update : d .«pending_rx» .«credit_update» ≡ false
+
+-- `kill`: that, and nothing else of the record moves
+pub record KillMeans (c d : VsockConnection) : Type 0 where
+  pub dead : Dead d
   pub expiry : d .expiry ≡ c .expiry
   pub settings : d .settings ≡ c .settings
   pub addresses : (d .«local_cid» ≡ c .«local_cid») × (d .«peer_cid» ≡ c .«peer_cid») × (d .«local_port» ≡ c .«local_port») × (d .«peer_port» ≡ c .«peer_port»)

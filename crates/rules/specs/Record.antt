@@ -1,12 +1,12 @@
 -- The record of a connection (01, "The numbers of a connection"): what is sound, and the numbers that rules go by. Assumes nothing.
 use Prim.Native.Nat.{ℕ}
-use mathlib.Core.Bool.{Bool, true, false, _&&_}
+use mathlib.Core.Bool.{Bool, _&&_}
 use lib.Dec.{eqb}
 use Rattle.defs.specs.Limits.{isThreshold, isTimeout}
 use Rattle.defs.specs.Credit.{peerAvailCredit}
 use Rattle.txbuf.specs.Record.{isEmpty, soundRecord, soundOf}
 use Rattle.txbuf.specs.declared.record.TxBuf.{TxBuf}
-use Rattle.csm.specs.Pending.{marked}
+use Rattle.csm.specs.Pending.{resetOnly}
 use Rattle.csm.specs.declared.pending.PendingRxSet.{PendingRxSet}
 use Rattle.csm.specs.declared.timer.Timer.{Timer}
 use Rattle.csm.specs.declared.state.ConnState.{ConnState}
@@ -96,6 +96,6 @@ regrouped c peer onward sent phase = record {
 unfoldable pub withState : VsockConnection → ConnState → Timer → PendingRxSet → VsockConnection
 withState c state expiry pending = regrouped c (peerOf c) (onwardOf c) (sentOf c) (record { state = state; expiry = expiry; pending = pending })
 
--- KILLED: the state, and a reset pending; the other indications stay, as in the Rust
+-- KILLED (2026-07): the state, and only the reset pending. `kill`, a failed write, a full ring and a failed flush all kill by this
 unfoldable pub killedOf : VsockConnection → VsockConnection
-killedOf c = withState c Killed (c .expiry) (marked (c .«pending_rx») true false false)
+killedOf c = withState c Killed (c .expiry) resetOnly

@@ -14,7 +14,7 @@ use Rattle.runs.specs.Runs as runs
 use Rattle.runs.specs.Runs.{Machine, gathered, Each, Account}
 use Rattle.txbuf.specs.Record.{usedOf, held}
 use Rattle.csm.specs.State.{Grown}
-use Rattle.csm.specs.declared.state.ConnState.the-variants.{PeerClosed}
+use Rattle.csm.specs.declared.state.ConnState.the-variants.{PeerClosed, Killed}
 use Rattle.csm.specs.declared.timer.Timer.the-variants.{Unset}
 use Rattle.rules.specs.Open.{Opening, ConnLeft, PeerInitSays, LocalInitSays}
 use Rattle.rules.specs.Look.{PendingSays, Timed, WillExpireSays, HasExpiredSays, ExpiryLeft, ExpirySays, StateLeft, StateSays, EvSetLeft, EvSetSays, KillSays}
@@ -204,6 +204,13 @@ abbrev pub FlagsOnlyGrow : Type 0
 FlagsOnlyGrow =
     (s : Start) (t : List Event) (c : VsockConnection) (store : List ℕ) → Run s t c store → (e : Event) → Made c store e
     → (recvOff sendOff : Bool) → c .state ≡ PeerClosed recvOff sendOff → Grown recvOff sendOff (after e .state)
+
+-- 2026-07: from an opening on, Killed is never left, whatever calls follow. It is about runs: a record made by hand, Killed with a RESPONSE pending, which
+-- no run leaves, says RESPONSE at its turn and is Established
+abbrev pub KilledStays : Type 0
+KilledStays =
+    (s : Start) (t : List Event) (c : VsockConnection) (store : List ℕ) → Run s t c store → c .state ≡ Killed
+    → (u : List Event) (d : VsockConnection) (y : List ℕ) → Steps c store u d y → d .state ≡ Killed
 
 -- 2026-08: in a run from opening, a connection that the guest has shut both ways while bytes are held has a timer, by which the host can end it
 abbrev pub ClosingIsTimed : Type 0

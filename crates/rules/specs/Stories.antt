@@ -1,25 +1,31 @@
 -- Runs at work: each theorem about runs, on calls that deliver, refuse, block, kill and shut down, so that no premise of it is empty. Assumes nothing.
 use Prim.Native.Nat.{ℕ}
 use mathlib.Core.Path.{_≡_}
-use mathlib.Core.Bool.{true, false}
-use mathlib.Core.List.{List, [], _∷_, _++_}
+use mathlib.Core.Bool.{Bool, true, false}
+use mathlib.Core.List.{List, [], _∷_, _++_, map}
 use lib.ListN.{take, drop, replicate}
 use Rattle.defs.specs.declared.stream.StreamAnswer.{StreamAnswer}
-use Rattle.defs.specs.declared.stream.StreamAnswer.the-variants.{Count, WouldBlock}
-use Rattle.defs.specs.declared.stream.ReadAnswer.the-variants.{WouldBlock as ReadWouldBlock}
-use Rattle.packet.specs.Uapi.{opResponse, opShutdown, opRw}
+use Rattle.defs.specs.declared.stream.StreamAnswer.the-variants.{Count, WouldBlock, Failed}
+use Rattle.defs.specs.declared.stream.ReadAnswer.{ReadAnswer}
+use Rattle.defs.specs.declared.stream.ReadAnswer.the-variants.{Count as ReadCount, WouldBlock as ReadWouldBlock}
+use Rattle.packet.specs.Uapi.{opResponse, opRst, opShutdown, opRw}
+use Rattle.packet.specs.Header.{decoded}
 use Rattle.packet.specs.Edges.{bytesA}
 use Rattle.runs.specs.Runs.{gathered}
 use Rattle.txbuf.specs.Record.{usedOf}
 use Rattle.csm.specs.State.{Grown}
-use Rattle.csm.specs.declared.state.ConnState.the-variants.{PeerClosed, Killed}
+use Rattle.csm.specs.Pending.{resetOnly}
+use Rattle.csm.specs.declared.state.ConnState.{ConnState}
+use Rattle.csm.specs.declared.state.ConnState.the-variants.{LocalInit, PeerInit, Established, LocalClosed, PeerClosed, Killed}
 use Rattle.csm.specs.declared.timer.Timer.the-variants.{Unset, At}
 use Rattle.rules.specs.Edges.{packet}
+use Rattle.rules.specs.Record.{withState}
 use Rattle.rules.specs.Open.{Opening, peerInitOf, localInitOf}
+use Rattle.rules.specs.Look.{killOf}
 use Rattle.rules.specs.Receive.{RecvIn, recvOf}
 use Rattle.rules.specs.Send.{SendIn, sendOf}
 use Rattle.rules.specs.Notify.{NotifyIn, notifyOf}
-use Rattle.rules.specs.Runs.{Event, sends, receives, notifies, before, after, storeAfter, Start, Run, tookBy, acceptedBy, deliveredBy, Forwards, Alike, Steps, outs, Pushless}
+use Rattle.rules.specs.Runs.{Event, sends, receives, notifies, kills, before, after, storeAfter, Start, Run, tookBy, acceptedBy, deliveredBy, Forwards, Alike, Steps, outs, Pushless}
 use Rattle.rules.specs.declared.record.VsockConnection.{VsockConnection}
 
 -- ---- what the stories are told with
@@ -38,11 +44,14 @@ begins size =
     } in
     record { guest = true; given = given; left = peerInitOf given; store = replicate size 0 }
 
--- a turn to speak
-abbrev turn : VsockConnection → Event
-turn c =
-    let i : RecvIn = record { conn = c; hdr = replicate 44 9; present = false; buf = []; clock = 0; answer = ReadWouldBlock; read = [] } in
+-- a turn to speak, and one whose read answers so
+abbrev turned : VsockConnection → Bool → ReadAnswer → Event
+turned c present answer =
+    let i : RecvIn = record { conn = c; hdr = replicate 44 9; present = present; buf = []; clock = 0; answer = answer; read = [] } in
     receives i (recvOf i)
+
+abbrev pub turn : VsockConnection → Event
+turn c = turned c false ReadWouldBlock
 
 -- a packet with this header and this data, to a stream that answers so
 abbrev comes : VsockConnection → List ℕ → List ℕ → List ℕ → StreamAnswer → Event
@@ -59,11 +68,14 @@ comes c store hdr bytes answer =
     } in
     sends i (sendOf i)
 
--- an out-event, of a stream that answers so, and so to a second piece
-abbrev out2 : VsockConnection → List ℕ → StreamAnswer → StreamAnswer → Event
-out2 c store answer second =
-    let i : NotifyIn = record { conn = c; readable = false; writable = true; store = store; answers = record { first = answer; second = second }; out = replicate 16 99 } in
+-- an event, of a stream that answers so, and so to a second piece
+abbrev happens : VsockConnection → Bool → Bool → List ℕ → StreamAnswer → StreamAnswer → Event
+happens c readable writable store answer second =
+    let i : NotifyIn = record { conn = c; readable = readable; writable = writable; store = store; answers = record { first = answer; second = second }; out = replicate 16 99 } in
     notifies i (notifyOf i)
+
+abbrev out2 : VsockConnection → List ℕ → StreamAnswer → StreamAnswer → Event
+out2 c store answer second = happens c false true store answer second
 
 abbrev out : VsockConnection → List ℕ → StreamAnswer → Event
 out c store answer = out2 c store answer WouldBlock
@@ -226,6 +238,82 @@ endStoreG = storeAfter (startA .store) g2
 abbrev pub storyG : List Event
 storyG = g2 ∷ a1 ∷ []
 
+-- ---- kills (2026-07): at h3 bytes are held, and an update and Rw are pending; at h4 the stream has ended; a failed flush kills at h5, a full ring at
+-- h6, a failed write, with an update pending, at i3
+
+abbrev pub h2 : Event
+h2 = comes (after a1) (startA .store) (packet opRw 0 20) (ten ++ ten) (Count 13)
+
+abbrev pub storeH : List ℕ
+storeH = storeAfter (startA .store) h2
+
+abbrev pub h3 : Event
+h3 = happens (after h2) true false storeH WouldBlock WouldBlock
+
+abbrev pub h4 : Event
+h4 = turned (after h3) true (ReadCount 0)
+
+-- an in-event and an out-event at once
+abbrev pub h5 : Event
+h5 = happens (after h2) true true storeH Failed WouldBlock
+
+abbrev pub h6 : Event
+h6 = comes (after h3) storeH (packet opRw 0 10) ten (Count 9)
+
+abbrev pub i2 : Event
+i2 = comes (after a1) (startA .store) (packet opRw 0 13) (take 13 (ten ++ ten)) (Count 13)
+
+abbrev pub storeI : List ℕ
+storeI = storeAfter (startA .store) i2
+
+abbrev pub i3 : Event
+i3 = comes (after i2) storeI (packet opRw 0 10) ten Failed
+
+-- `kill`, on any record; then two turns to speak, a RESPONSE, a SHUTDOWN both ways, data, both events at once, and a turn
+abbrev pub k1 : VsockConnection → Event
+k1 c = kills c (killOf c)
+
+abbrev pub k2 : VsockConnection → Event
+k2 c = turn (after (k1 c))
+
+abbrev pub k3 : VsockConnection → Event
+k3 c = turn (after (k2 c))
+
+abbrev pub k4 : VsockConnection → List ℕ → Event
+k4 c store = comes (after (k3 c)) store (packet opResponse 0 0) [] (Count 9)
+
+abbrev pub storeK4 : VsockConnection → List ℕ → List ℕ
+storeK4 c store = storeAfter store (k4 c store)
+
+abbrev pub k5 : VsockConnection → List ℕ → Event
+k5 c store = comes (after (k4 c store)) (storeK4 c store) (packet opShutdown 3 0) [] (Count 9)
+
+abbrev pub storeK5 : VsockConnection → List ℕ → List ℕ
+storeK5 c store = storeAfter (storeK4 c store) (k5 c store)
+
+abbrev pub k6 : VsockConnection → List ℕ → Event
+k6 c store = comes (after (k5 c store)) (storeK5 c store) (packet opRw 0 10) ten (Count 10)
+
+abbrev pub storeK6 : VsockConnection → List ℕ → List ℕ
+storeK6 c store = storeAfter (storeK5 c store) (k6 c store)
+
+abbrev pub k7 : VsockConnection → List ℕ → Event
+k7 c store = happens (after (k6 c store)) true true (storeK6 c store) (Count 1) WouldBlock
+
+abbrev pub k8 : VsockConnection → List ℕ → Event
+k8 c store = turn (after (k7 c store))
+
+abbrev pub killing : VsockConnection → List ℕ → List Event
+killing c store = k8 c store ∷ k7 c store ∷ k6 c store ∷ k5 c store ∷ k4 c store ∷ k3 c ∷ k2 c ∷ k1 c ∷ []
+
+-- the ops of the headers that are handed to the guest
+abbrev pub heardOps : List Event → List ℕ
+heardOps t = map (λ (hdr : List ℕ). decoded hdr .op) (gathered deliveredBy t)
+
+-- no run: Killed by hand, with the RESPONSE of an opening still pending
+abbrev pub byHand : VsockConnection
+byHand = withState (startA .left .conn) Killed Unset (startA .left .conn .«pending_rx»)
+
 -- ---- what the theorems say of them, and what they come to
 
 pub record Ends (s : Start) (t : List Event) (c : VsockConnection) (store bytes : List ℕ) : Type 0 where
@@ -234,6 +322,14 @@ pub record Ends (s : Start) (t : List Event) (c : VsockConnection) (store bytes 
   pub taken : gathered tookBy t ≡ bytes
   pub accepted : gathered acceptedBy t ≡ bytes
   pub empty : usedOf (c .«tx_buf») ≡ 0
+
+-- a run that ends in this state is killed there: the guest hears RST, and RST again after the in-event, and nothing else; and Killed stays
+pub record StaysDead (s : Start) (t : List Event) (c : VsockConnection) (store : List ℕ) (was : ConnState) : Type 0 where
+  pub run : Run s t c store
+  pub state : c .state ≡ was
+  pub dies : after (k1 c) .state ≡ Killed
+  pub heard : heardOps (killing c store) ≡ opRst ∷ opRst ∷ []
+  pub dead : after (k8 c store) .state ≡ Killed
 
 pub record StoriesHold : Type 0 where
   pub shut-down : Ends startA storyA (after a7) endStoreA ten
@@ -258,3 +354,18 @@ pub record StoriesHold : Type 0 where
   pub none-pushed : Pushless draining
   pub drained : usedOf (after d5 .«tx_buf») ≡ 0
   pub first-header : gathered deliveredBy storyA ≡ bytesA ∷ []
+  pub dead-local-init : StaysDead startE [] (startE .left .conn) (startE .store) LocalInit
+  pub dead-peer-init : StaysDead startA [] (startA .left .conn) (startA .store) PeerInit
+  pub dead-established : StaysDead startA (h3 ∷ h2 ∷ a1 ∷ []) (after h3) storeH Established
+  pub dead-local-closed : StaysDead startA (h4 ∷ h3 ∷ h2 ∷ a1 ∷ []) (after h4) storeH LocalClosed
+  pub dead-peer-closed : StaysDead startA upToA5 (after a5) storeF (PeerClosed true false)
+  pub dead-both-closed : StaysDead startA (a6 ∷ upToA5) (after a6) endStoreA (PeerClosed true true)
+  pub owed : after h3 .«pending_rx» ≡ record { request = false; response = false; rst = false; rw = true; «credit_update» = true }
+  pub owed-update : after i2 .«pending_rx» .«credit_update» ≡ true
+  pub flush-fails : after h5 .«pending_rx» ≡ resetOnly
+  pub ring-full : after h6 .«pending_rx» ≡ resetOnly
+  pub write-fails : after i3 .«pending_rx» ≡ resetOnly
+  pub dead-flush : StaysDead startA (h5 ∷ h2 ∷ a1 ∷ []) (after h5) storeH Killed
+  pub dead-full : StaysDead startA (h6 ∷ h3 ∷ h2 ∷ a1 ∷ []) (after h6) (storeAfter storeH h6) Killed
+  pub dead-write : StaysDead startA (i3 ∷ i2 ∷ a1 ∷ []) (after i3) (storeAfter storeI i3) Killed
+  pub by-hand : after (turn byHand) .state ≡ Established

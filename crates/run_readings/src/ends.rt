@@ -6,12 +6,14 @@ use crate::scene::opened_by_host;
 use crate::scene::say_op;
 use crate::scene::say_state;
 use crate::scene::sent;
+use crate::scene::spoken;
 use crate::scene::turn;
 use connection::VsockConnection;
 use csm::Timer;
 use defs::ReadAnswer;
 use defs::limits::VSOCK_PKT_HDR_SIZE;
 use packet::uapi;
+use text::named;
 use text::number;
 use text::say;
 
@@ -79,10 +81,10 @@ pub fn reading_l() {
     let first = turn(conn, &mut hdr, false, ReadAnswer::WouldBlock);
     say(b"l");
     say_op(&hdr);
-    let second = turn(first, &mut hdr, false, ReadAnswer::WouldBlock);
+    let second = spoken(first, &mut hdr, false, ReadAnswer::WouldBlock);
+    let answer = second.answer;
+    named(b", answer", defs::number_of(answer) as u64);
     say(b",");
-    say_op(&hdr);
-    say(b",");
-    say_state(second);
+    say_state(second.conn);
     say(b"\n");
 }

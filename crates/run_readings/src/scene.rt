@@ -1,4 +1,5 @@
 // What the readings share: a connection with 01's settings, the calls on it, and its words.
+use connection::Outcome;
 use connection::Settings;
 use connection::VsockConnection;
 use csm::ConnState;
@@ -42,14 +43,19 @@ pub fn opened_by_host() -> VsockConnection {
 }
 
 // A turn to speak at time 0, with a buffer of 0 bytes or none.
+pub fn spoken(conn: VsockConnection, hdr: &mut [u8], present: bool, answer: ReadAnswer) -> Outcome {
+    let mut buf = [0u8; 1];
+    connection::recv_pkt(conn, hdr, present, &mut buf[..0], 0, answer, b"")
+}
+
+// The connection that such a turn leaves.
 pub fn turn(
     conn: VsockConnection,
     hdr: &mut [u8],
     present: bool,
     answer: ReadAnswer,
 ) -> VsockConnection {
-    let mut buf = [0u8; 1];
-    let got = connection::recv_pkt(conn, hdr, present, &mut buf[..0], 0, answer, b"");
+    let got = spoken(conn, hdr, present, answer);
     let next = got.conn;
     next
 }

@@ -8,6 +8,7 @@ use crate::limits::*;
 use crate::record::*;
 use crate::settings;
 use crate::shim::time::Instant;
+use crate::show;
 use crate::stream::{self, Answer, Scripted};
 use crate::vsock::csm::connection::probe::{self as conn_probe, hdr_probe::HdrBytes};
 use crate::vsock::csm::VsockConnection;
@@ -197,6 +198,24 @@ fn readings(say: &mut impl FnMut(String) -> Result<()>) -> Result<()> {
     say(format!(
         "l: kill in PeerInit, ops {} and {}: {state:?}",
         first.0, second.0
+    ))?;
+    let failing = [Answer::Failed; 2];
+    let mut owing = conn(State::Established);
+    owing.pending = 8;
+    let mut c = rust(&owing);
+    stream::lying(failing, Answer::Failed, &[], || {
+        c.send_pkt(&header(5, 1, 0).packet(Some(&mut [0]))).is_ok()
+    });
+    let written = show::pending(now(&c).pending);
+    owing.ring.head = 1;
+    owing.fwd_cnt = 13;
+    let mut c = rust(&owing);
+    stream::lying(failing, Answer::Failed, &[], || {
+        c.notify(epoll::Events::EPOLLOUT)
+    });
+    let flushed = show::pending(now(&c).pending);
+    say(format!(
+        "a failed write, then pending {written:?}; a failed flush, 13 bytes untold: {flushed:?}"
     ))?;
     let mut early = conn(State::LocalInit);
     early.pending = 1;

@@ -11,7 +11,7 @@ mod rxq;
 
 use std::io::ErrorKind;
 
-pub use conn::{flags, len, op, zero_conn};
+pub use conn::{brings_data, flags, len, op, zero_conn};
 pub use killq::{killq_read, ties_by_slot};
 pub use queue::conn_map;
 pub use ring::{ring_of, rust_ring};

@@ -29,6 +29,9 @@ const USAGE: &str = "usage: oracle COMMAND
                                   those that go by credit, and those that do both
   shut <calls                     counts SHUTDOWNs that leave both flags set while bytes are held, by
                                   state (Established, PeerClosed, with both set before) and by timer
+  killed <calls                   counts calls that kill while more than a reset is pending, by what
+                                  kills (a failed write, a full ring, a failed flush, `kill`), and
+                                  failed flushes that fall short of the threshold
   show calls|replies <frames      prints them
   differ CALLS REPLIES OTHERS     prints the first call whose replies differ
   beyond                          what the Rust does where docs/DIFFERENCES.md says that it differs";
@@ -44,6 +47,7 @@ fn main() -> Result<()> {
         ["states"] => states(input, output)?,
         ["shrunk"] => shrunk(input, output)?,
         ["shut"] => shut(input, output)?,
+        ["killed"] => killed(input, output)?,
         ["show", what] => {
             while let Some(frame) = Frame::read(input)? {
                 let text = match what {
@@ -190,6 +194,44 @@ fn shut(input: &mut impl Read, output: &mut impl Write) -> Result<()> {
             _ => continue,
         };
         counts[state + conn.expiry.is_some() as usize] += 1;
+    }
+    writeln!(output, "{}", counts.map(|n| n.to_string()).join(" "))
+}
+
+/// How many compared calls kill while more than a reset is pending: by a failed write, a full ring, a
+/// failed flush and `kill`; and how many failed flushes would owe an update by the threshold rule.
+fn killed(input: &mut impl Read, output: &mut impl Write) -> Result<()> {
+    let mut counts = [0u64; 5];
+    while let Some(call) = Frame::read(input)? {
+        if call.u8(at::MARK) != frame::BY_RUST {
+            continue;
+        }
+        let conn = record::Conn::read(&call);
+        let [first, _] = call.answers();
+        let (held, failed) = (conn.ring.held() as u64, first == stream::Answer::Failed);
+        let mut pending = conn.pending;
+        let by = match call.entry() {
+            entries::SEND_PKT if calls::brings_data(&call, &conn) => {
+                let taken = match first {
+                    stream::Answer::Count(n) if held == 0 => n,
+                    _ => 0,
+                };
+                let len = calls::len(&call.runs[frame::HDR]) as u64;
+                match held == 0 && failed {
+                    true => 0,
+                    false if held + len - taken > conn.ring.size as u64 => 1,
+                    false => continue,
+                }
+            }
+            entries::NOTIFY if call.yes(at::WRITABLE) && held > 0 && failed => {
+                pending |= (call.yes(at::READABLE) as u8) << 3;
+                counts[4] += conn.falls_short() as u64;
+                2
+            }
+            entries::KILL => 3,
+            _ => continue,
+        };
+        counts[by] += (pending & !4 != 0) as u64;
     }
     writeln!(output, "{}", counts.map(|n| n.to_string()).join(" "))
 }

@@ -176,6 +176,17 @@ impl Conn {
         gives && self.pending & 15 == 8
     }
 
+    /// The guest's data is taken.
+    pub fn takes(&self) -> bool {
+        matches!(self.state, State::Established | State::PeerClosed(_, false))
+    }
+
+    /// The threshold rule: the guest would be told of freed space.
+    pub fn falls_short(&self) -> bool {
+        let ahead = self.fwd_cnt.wrapping_sub(self.last_fwd_cnt_to_peer);
+        self.ring.size.wrapping_sub(ahead) < self.threshold
+    }
+
     /// The state is one in which data is polled for.
     pub fn polls(&self) -> bool {
         let closed = matches!(self.state, State::LocalClosed | State::PeerClosed(true, _));

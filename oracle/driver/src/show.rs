@@ -16,15 +16,19 @@ fn hex(bytes: &[u8]) -> String {
     }
 }
 
-fn conn(frame: &Frame) -> String {
+/// The names of what is pending.
+pub fn pending(set: u8) -> Vec<&'static str> {
     let names = ["Request", "Response", "Rst", "Rw", "CreditUpdate"];
+    let set = (0..5).filter(|i| set >> i & 1 == 1);
+    set.map(|i| names[i]).collect()
+}
+
+fn conn(frame: &Frame) -> String {
     let c = Conn::read(frame);
-    let set = (0..5).filter(|i| c.pending >> i & 1 == 1);
-    let pending: Vec<&str> = set.map(|i| names[i]).collect();
     format!(
         "  R {}, T {}, timeouts {} and {}, {:?}, head {}, tail {}
   fwd_cnt {}, last told {}, peer alloc {}, peer fwd {}, sent {}, credit {}
-  cids {} and {}, ports {} and {}, pending {pending:?}, timer {:?}
+  cids {} and {}, ports {} and {}, pending {:?}, timer {:?}
 ",
         c.ring.size,
         c.threshold,
@@ -43,6 +47,7 @@ fn conn(frame: &Frame) -> String {
         c.peer_cid,
         c.local_port,
         c.peer_port,
+        pending(c.pending),
         c.expiry
     )
 }

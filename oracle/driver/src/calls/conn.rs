@@ -65,6 +65,11 @@ pub fn flags(hdr: &[u8]) -> u32 {
     u32::from_le_bytes(hdr[32..36].try_into().unwrap())
 }
 
+/// RW with a buffer, in a state that takes it.
+pub fn brings_data(call: &Frame, conn: &Conn) -> bool {
+    conn.takes() && call.yes(at::PRESENT) && op(&call.runs[HDR]) == RW
+}
+
 /// A reply with a record and the runs that this entry hands back, as they came.
 pub(super) fn conn_left(call: &Frame, number: u8, conn: &Conn) -> Frame {
     let mut reply = answered(call, number);

@@ -155,9 +155,10 @@ impl Maker {
             NOTIFY | NOTIFY_ASKED => {
                 let (held, first) = (conn.ring.held() as u64, conn.ring.first() as u64);
                 let rest = held.saturating_sub(first);
-                let answers = match self.one_in(4) {
-                    true => [Answer::Count(first), Answer::Count(rest)],
-                    false => [self.answer(first), self.answer(rest)],
+                let answers = match self.below(8) {
+                    0..2 => [Answer::Count(first), Answer::Count(rest)],
+                    2 if self.mood == Mood::Wild => [Answer::Failed, self.answer(rest)],
+                    _ => [self.answer(first), self.answer(rest)],
                 };
                 call.set_answers(answers);
                 call.set_yes(at::READABLE, self.one_in(3));

@@ -34,6 +34,7 @@ impl Maker {
         let first = match self.below(6) {
             0 => Answer::Count(lack),
             1 => Answer::Count(lack.saturating_sub(1)),
+            2 if self.mood == Mood::Wild => Answer::Failed,
             _ => self.answer(len),
         };
         call.set_answers([first, self.answer(3)]);

@@ -5,7 +5,7 @@ use Rattle.connection.proofs.record.killed.Tie as tie
 
 returns : tie.Need-returns
 unfolding killedOf
-returns c = rw (c .with-state .ensures, c .before .mark .ensures)
+returns c = c .with-state .ensures
 
 pub killed-spec : {M : Type 1} → statement M
-killed-spec = tie.close (tie.spec (search needs) (search needs) returns)
+killed-spec = tie.close (tie.spec (search needs) returns)
