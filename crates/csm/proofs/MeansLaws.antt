@@ -2,7 +2,7 @@
 use Prim.Native.Nat.{ℕ}
 use mathlib.Core.Path.{_≡_, refl, sym, ap, _∙_}
 use mathlib.Core.Logic.{⊎-elim}
-use mathlib.Core.Bool.{Bool, true, false, not, _&&_}
+use mathlib.Core.Bool.{true, false, not, _&&_}
 use native.Mathlib.Omega.{arith}
 use borrow.Author.Tests.{ltb-true, leb-true, lt-ltb, le-leb, not-true}
 use Rattle.defs.proofs.Basics.{never, both, both-true, true-or-false}
@@ -50,6 +50,9 @@ both-shut (PeerClosed true false) e = absurd (never e)
 both-shut (PeerClosed false q) e = absurd (never e)
 both-shut Killed e = absurd (never e)
 
+pub open-yet : (s : ConnState) → (s ≡ PeerClosed true true → ⊥) → not (shutBoth s) ≡ true
+open-yet s f = ⊎-elim (λ (x : shutBoth s ≡ true). absurd (f (both-shut s x))) (λ (x : shutBoth s ≡ false). ap not x) (true-or-false (shutBoth s))
+
 not-set : (t : Timer) → isSet t ≡ false → t ≡ Unset
 not-set Unset e = refl
 not-set (At time) e = absurd (never (sym e))
@@ -67,11 +70,7 @@ every-shutdown-means before after empty t = (forth, back)
         let c = both (bothOff after) (not (bothOff before)) (b .0) in
         (off after (c .0), λ z. never (sym (not-true _ (c .1)) ∙ ap bothOff z), not-true _ (b .1), not-set t (not-true _ (a .1)))
 
-    open-yet : (before ≡ PeerClosed true true → ⊥) → not (bothOff before) ≡ true
-    open-yet f =
-        ⊎-elim (λ (x : bothOff before ≡ true). absurd (f (off before x))) (λ (x : bothOff before ≡ false). ap not x) (true-or-false (bothOff before))
-
     back : (after ≡ PeerClosed true true) × (before ≡ PeerClosed true true → ⊥) × (empty ≡ false) × (t ≡ Unset)
         → shutArms before after empty t ≡ true
     back p =
-        both-true _ _ (both-true _ _ (both-true _ _ (ap bothOff (p .0)) (open-yet (p .1))) (ap not (p .2))) (ap (λ (x : Timer). not (isSet x)) (p .3))
+        both-true _ _ (both-true _ _ (both-true _ _ (ap bothOff (p .0)) (ap not (every-state-means before .both) ∙ open-yet before (p .1))) (ap not (p .2))) (ap (λ (x : Timer). not (isSet x)) (p .3))

@@ -143,6 +143,10 @@ indicated dies p rst rw update = record {
   «credit_update» = unlessKilled dies (p .«credit_update» || update);
 }
 
+-- by the kill itself, or by what is said of it
+kills-as : {a b : Bool} → a ≡ b → (x : Bool) → unlessKilled a x ≡ unlessKilled b x
+kills-as e x = ap (λ (c : Bool). unlessKilled c x) e
+
 -- the record after a packet by what it may move
 abbrev shaped : SendIn → ConnState → Timer → Bool → Bool → Bool → TxBuf → ℕ → VsockConnection
 shaped i s t dies rst update ring n =
@@ -487,7 +491,7 @@ leaves : (i : SendIn) (d : VsockConnection) (o : SendLeft) → Shape i d → o .
 leaves i d o h e s x =
     let z = e ∙ h .is in
     let p : PendingRxSet = i .conn .«pending_rx» in
-    let kept : (x : Bool) → unlessKilled (h .dies) x ≡ unlessKilled (dataKills i) x = λ x. ap (λ (b : Bool). unlessKilled b x) (h .dies-is) in
+    let kept = kills-as (h .dies-is) in
     record {
       self = record {
         settings = ap (λ (c : VsockConnection). c .settings) z;
@@ -679,7 +683,7 @@ module _ (i : NotifyIn) where
     by-form o r n s dies rst update z e v g h j k x =
         let at : flushEnds i (o .conn) ≡ ends s r = ap (flushEnds i) z in
         let p : PendingRxSet = i .conn .«pending_rx» in
-        let kept : (y : Bool) → unlessKilled dies y ≡ unlessKilled (flushFails i) y = λ y. ap (λ (b : Bool). unlessKilled b y) v in
+        let kept = kills-as v in
         let short : fallsShort (o .conn) ≡ shortOf (i .conn) r n = ap fallsShort z in
         record {
           self = record {

@@ -236,7 +236,7 @@ opening-fits true o left e =
 opening-fits false o left e =
     rw e (fit-either (isDone (openAnswer (o .size) (o .settings))) _ _ (fresh-fits _ LocalInit _ (λ x. absurd (never x))) (fresh-fits _ LocalInit _ (λ x. absurd (never x))))
 
-abbrev fit-after : {s : Start} {t : List Event} {c : VsockConnection} {store : List ℕ} → Run s t c store → Fit c
+fit-after : {s : Start} {t : List Event} {c : VsockConnection} {store : List ℕ} → Run s t c store → Fit c
 fit-after {s} r = any.every-run-keeps connections Fit fits _ _ _ _ _ (opening-fits (s .guest) (s .given) (s .left) (r .opened)) (r .steps)
 
 pub flags-only-grow : FlagsOnlyGrow

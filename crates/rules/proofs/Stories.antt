@@ -77,14 +77,17 @@ up-to-d2 = record { opened = refl; steps = then (then none a1 (refl, refl)) d2 (
 
 -- ---- kills
 
+up-to-h2 : Run startA (h2 ∷ a1 ∷ []) (after h2) storeH
+up-to-h2 = record { opened = refl; steps = then (then none a1 (refl, refl)) h2 (refl, refl, refl) }
+
 run-h3 : Run startA (h3 ∷ h2 ∷ a1 ∷ []) (after h3) storeH
-run-h3 = record { opened = refl; steps = then (then (then none a1 (refl, refl)) h2 (refl, refl, refl)) h3 (refl, refl, refl) }
+run-h3 = record { opened = refl; steps = then (up-to-h2 .steps) h3 (refl, refl, refl) }
 
 run-h4 : Run startA (h4 ∷ h3 ∷ h2 ∷ a1 ∷ []) (after h4) storeH
 run-h4 = record { opened = refl; steps = then (run-h3 .steps) h4 (refl, refl) }
 
 run-h5 : Run startA (h5 ∷ h2 ∷ a1 ∷ []) (after h5) storeH
-run-h5 = record { opened = refl; steps = then (then (then none a1 (refl, refl)) h2 (refl, refl, refl)) h5 (refl, refl, refl) }
+run-h5 = record { opened = refl; steps = then (up-to-h2 .steps) h5 (refl, refl, refl) }
 
 run-h6 : Run startA (h6 ∷ h3 ∷ h2 ∷ a1 ∷ []) (after h6) (storeAfter storeH h6)
 run-h6 = record { opened = refl; steps = then (run-h3 .steps) h6 (refl, refl, refl) }

@@ -29,7 +29,7 @@ use Rattle.csm.specs.declared.state.ConnState.{ConnState}
 use Rattle.csm.specs.declared.state.ConnState.the-variants.{LocalInit, PeerInit, Established, LocalClosed, PeerClosed, Killed}
 use Rattle.csm.specs.declared.timer.Timer.{Timer}
 use Rattle.csm.specs.declared.timer.Timer.the-variants.{Unset, At}
-use Rattle.csm.proofs.MeansLaws.{unset, both-shut}
+use Rattle.csm.proofs.MeansLaws.{unset, both-shut, open-yet}
 use Rattle.rules.specs.Record.{withState, killedOf}
 use Rattle.rules.specs.Look.{lookAnswer, killOf}
 use Rattle.rules.specs.Receive.{spokenOf, receivedOf, RecvIn, RecvLeft, refusalOf, saidBy, recvDone, recvKept, recvOf}
@@ -108,18 +108,11 @@ module _ (i : SendIn) where
         a .2,
       )
 
-  open-yet : (i .conn .state ≡ PeerClosed true true → ⊥) → not (shutBoth (i .conn .state)) ≡ true
-  open-yet f =
-      ⊎-elim
-      (λ (t : shutBoth (i .conn .state) ≡ true). absurd (f (both-shut _ t)))
-      (λ (t : shutBoth (i .conn .state) ≡ false). ap not t)
-      (true-or-false (shutBoth (i .conn .state)))
-
   is-set : (o : SendLeft) (time : ℕ) → SendLeaves i o → o .conn .expiry ≡ timerNow i → ArmsNow i o → time ≡ lingerTime
       → (i .conn .expiry ≡ At time → ⊥) × (o .conn .expiry ≡ At time)
   is-set o time v t b e =
       let s : shutBoth (closedNow i) ≡ true = ap shutBoth (sym (state-shut o v (b .op)) ∙ b .after) in
-      let l : lingersNow i ≡ true = both-true _ _ (both-true _ _ s (open-yet (b .before))) (le-leb 1 _ (b .held)) in (
+      let l : lingersNow i ≡ true = both-true _ _ (both-true _ _ s (open-yet (i .conn .state) (b .before))) (le-leb 1 _ (b .held)) in (
         λ z. unset time (sym (b .idle) ∙ z),
         t ∙ timer-shut (b .op) ∙ when-true _ _ _ l ∙ ap (λ (x : Timer). unlessRunning x lingerTime) (b .idle) ∙ ap At (sym e),
       )
