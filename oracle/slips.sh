@@ -1,9 +1,9 @@
 #!/usr/bin/env bash
-# slips.sh [SEED [CALLS]]: puts each slip of slips.txt into a copy of the Rust, one at a time, and says at which call the
-# comparison finds it. It fails where one is not found.
+# slips.sh [SEED [CALLS [LIST PROGRAM LENT]]]: puts each slip of a list (slips.txt) into a copy of the Rust, one at a time, and says at
+# which call the comparison finds it. It fails where one is not found. PROGRAM and LENT are as in compare.sh.
 set -eu
 cd "$(dirname "$0")/.."
-seed=${1:-1} calls=${2:-100000}
+seed=${1:-1} calls=${2:-100000} list=${3:-oracle/slips.txt} program=${4:-replay_calls} lent=${5:-}
 dir=target/oracle
 oracle=$dir/build/release/oracle
 PATH=$PATH:${HOME:-}/.cargo/bin
@@ -11,8 +11,8 @@ PATH=$PATH:${HOME:-}/.cargo/bin
 mkdir -p $dir
 oracle/build.sh >$dir/build.log || { cat $dir/build.log; exit 1; }
 oracle/port.sh
-$oracle gen "$seed" 0 "$calls" >$dir/slip.calls
-scripts/program replay_calls <$dir/slip.calls >$dir/slip.port
+$oracle gen "$seed" 0 "$calls" $lent >$dir/slip.calls
+scripts/program "$program" <$dir/slip.calls >$dir/slip.port
 $oracle run <$dir/slip.calls | cmp - $dir/slip.port || { echo "slips: a difference without any slip"; exit 1; }
 
 slip=$dir/slip
@@ -33,7 +33,7 @@ while IFS=$'\t' read -r file rule what; do
     echo "| $file | $what | ${found:-NOT FOUND} |"
     [ -n "$found" ] || missed=$((missed + 1))
     cp "$dir/crate/original/$file" "$slip/crate/original/$file"
-done <oracle/slips.txt
+done <"$list"
 rm -f $dir/slip.calls $dir/slip.port $dir/slip.rust
 echo "slips: $tried tried by seed $seed, $missed not found within $calls calls"
 [ "$missed" = 0 ]

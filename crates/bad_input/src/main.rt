@@ -163,7 +163,11 @@ fn settings() {
     ring_size(limits::MIN_RING_SIZE / 2);
     ring_size(limits::MIN_RING_SIZE);
     ring_size(24);
+    ring_size(limits::MAX_RING_SIZE / 8);
+    ring_size(limits::MAX_RING_SIZE / 2);
+    ring_size(limits::MAX_RING_SIZE - 1);
     ring_size(limits::MAX_RING_SIZE);
+    ring_size(limits::MAX_RING_SIZE + 1);
     ring_size(2 * limits::MAX_RING_SIZE);
     named(b"\nthreshold of a ring of", RING as u64);
     say(b":");
@@ -188,6 +192,7 @@ fn sizes() {
     say(b"\nRX queue:");
     rxq(limits::MIN_RXQ_SIZE - 1);
     rxq(limits::MIN_RXQ_SIZE);
+    rxq(limits::MAX_RXQ_SIZE / 2 + 1);
     rxq(limits::MAX_RXQ_SIZE);
     rxq(limits::MAX_RXQ_SIZE + 1);
     say(b"\nkill queue:");
@@ -198,6 +203,7 @@ fn sizes() {
     say(b"\ntable:");
     slots(limits::MIN_CONNECTIONS - 1);
     slots(limits::MIN_CONNECTIONS);
+    slots(limits::MAX_CONNECTIONS / 2 + 1);
     slots(limits::MAX_CONNECTIONS);
     slots(limits::MAX_CONNECTIONS + 1);
     say(b"\npacket:");

@@ -1,7 +1,8 @@
--- The edges of a table's soundness, computed (01, "The numbers of a connection"). Assumes nothing.
-use Prim.Native.Nat.{ℕ, _+_, _*_, _^_}
-use mathlib.Core.Bool.{true, false}
-use mathlib.Core.List.{List, [], _∷_}
+-- The edges of a table's soundness, computed (01, "The numbers of a connection"), and 01's readings of how many slots it has. Assumes nothing.
+use Prim.Native.Nat.{ℕ, _+_, _-_, _*_, _^_}
+use mathlib.Core.Bool.{Bool, true, false}
+use mathlib.Core.List.{List, [], _∷_, _++_}
+use lib.ListN.{replicate}
 use Rattle.defs.specs.Reading.{Reading, _reads_}
 use Rattle.conn_map.specs.Table.{soundTable}
 use Rattle.conn_map.specs.Distinct.{markCount}
@@ -38,4 +39,18 @@ sameMark =
     (soundTable (5 ∷ (2 ^ 32 + 5) ∷ (2 * 2 ^ 32 + 5) ∷ []) (1 ∷ 1 ∷ 1 ∷ []) 3 reads true)
     ∷ (soundTable (5 ∷ (markCount + 5) ∷ (2 * markCount + 5) ∷ []) (1 ∷ 1 ∷ 1 ∷ []) 3 reads true)
     ∷ (soundTable (5 ∷ (markCount + 5) ∷ 5 ∷ []) (1 ∷ 1 ∷ 1 ∷ []) 3 reads false)
+    ∷ []
+
+-- a table of so many slots, of which the last two are used, with these ports
+abbrev many : ℕ → ℕ → ℕ → Bool
+many slots a b =
+    soundTable (replicate (slots - 2) 0 ++ (a ∷ b ∷ [])) (replicate (slots - 2) 0 ++ (1 ∷ 1 ∷ [])) slots
+
+-- the table, as 2026-10 has it: over the 512 slots of before, the most, and one more; the most with the same ports twice
+unfoldable pub readingSlots : List Reading
+readingSlots =
+    (many 513 5 7 reads true)
+    ∷ (many 1024 5 7 reads true)
+    ∷ (many 1025 5 7 reads false)
+    ∷ (many 1024 7 7 reads false)
     ∷ []

@@ -7,7 +7,7 @@ use lib.ListN.{length, getD}
 use Rattle.defs.specs.Promises.{Exactly}
 use Rattle.defs.specs.Reading.{Hold}
 use Rattle.conn_map.specs.Key.{keyOf}
-use Rattle.conn_map.specs.Edges.{lastPair, farPair, sameMark}
+use Rattle.conn_map.specs.Edges.{lastPair, farPair, sameMark, readingSlots}
 use Rattle.conn_map.specs.Table.{Slot, slotAt, slotsOf, gathered, soundTable}
 use Rattle.conn_map.specs.Order.{InSlotOrder}
 
@@ -20,9 +20,9 @@ abbrev pub NoTwoAlike : List ℕ → List ℕ → Type 0
 NoTwoAlike ports used =
     (i j : ℕ) → i < j → j < length ports → 0 < getD used i 0 → 0 < getD used j 0 → SamePorts (getD ports i 0) (getD ports j 0) → ⊥
 
--- a table is sound: 1 to 512 slots, the slices equally long, no two used slots with the same ports
+-- a table is sound: 1 to 1,024 slots, the slices equally long, no two used slots with the same ports
 abbrev pub Sound : List ℕ → List ℕ → ℕ → Type 0
-Sound ports used marks = (1 ≤ length ports) × (length ports ≤ 512) × (length used ≡ length ports) × (marks ≡ length ports) × NoTwoAlike ports used
+Sound ports used marks = (1 ≤ length ports) × (length ports ≤ 1024) × (length used ≡ length ports) × (marks ≡ length ports) × NoTwoAlike ports used
 
 -- its test says just that
 abbrev pub SoundMeans : Type 0
@@ -40,6 +40,7 @@ pub record EdgesHold : Type 0 where
   pub last-pair : Hold lastPair
   pub far-pair : Hold farPair
   pub same-mark : Hold sameMark
+  pub slots : Hold readingSlots
 
 -- one number is both ports: the local one times 2^32, and the peer one
 abbrev pub NumberIsPorts : Type 0

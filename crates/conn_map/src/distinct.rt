@@ -11,7 +11,7 @@ ghost use Rattle.conn_map.specs.Distinct.{keysTo, twice, markCount, mark
 use crate::sort;
 use defs::limits;
 
-// The places for marks, `markCount` of specs/Distinct.antt: of 512 random ports about 30 share
+// The places for marks, `markCount` of specs/Distinct.antt: of 1,024 random ports about 120 share
 // theirs. A prime, so that all bits of both ports tell; one local port more is 2,852 places on.
 const MARKS: usize = 8117;
 

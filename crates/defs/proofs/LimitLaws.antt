@@ -8,7 +8,7 @@ use native.Mathlib.Nat.{mul-add, add-mul, mul-suc, mul-zero, zero-mul, two-pow-s
 use lib.Pow.{pow-add}
 use lib.Dec.{leb, eqb}
 use borrow.Author.Tests.{leb-true, eqb-true, le-leb, eq-eqb}
-use Rattle.defs.specs.Limits.{minRing, maxRingLog, maxRing, isRingSize, isThreshold, maxTimeout, isTimeout, isRxqLimit, isKillqLimit, isSlotCount, maxClock, isClock, maxPacket, isPacketLength, headerSize, isHeaderLength}
+use Rattle.defs.specs.Limits.{minRing, maxRingLog, maxRing, isRingSize, isThreshold, maxTimeout, isTimeout, maxRxq, isRxqLimit, isKillqLimit, maxSlots, isSlotCount, maxClock, isClock, maxPacket, isPacketLength, headerSize, isHeaderLength}
 use Rattle.defs.specs.Promises.{Exactly, PowerOfTwo, RingSizes, LimitsMean}
 use Rattle.defs.proofs.Basics.{both, lt-or-ge}
 use Rattle.defs.proofs.MeansLaws.{within-means, over-means, equal-means, and-means}
@@ -89,9 +89,9 @@ unfolding isThreshold isTimeout isRxqLimit isKillqLimit isSlotCount isClock isPa
 limits-mean = record {
   threshold = λ t size. and-means (within-means 1 t) (within-means t size);
   timeout = λ ms. and-means (within-means 1 ms) (within-means ms 60000);
-  rxq = λ limit. and-means (within-means 1 limit) (within-means limit 256);
+  rxq = λ limit. and-means (within-means 1 limit) (within-means limit maxRxq);
   killq = λ limit. and-means (within-means 1 limit) (within-means limit 128);
-  slots = λ slots. and-means (within-means 1 slots) (within-means slots 512);
+  slots = λ slots. and-means (within-means 1 slots) (within-means slots maxSlots);
   clock = λ ms. within-means ms (2 ^ 62);
   packet = λ bytes. within-means bytes 65536;
   header = λ bytes. equal-means bytes 44;

@@ -3,12 +3,12 @@ use Prim.Native.Nat.{ℕ, _%_, _^_}
 use mathlib.Core.Bool.{Bool, _&&_}
 use lib.Dec.{leb, eqb}
 
--- R, the ring's size: a power of two from 16 to 65,536
+-- R, the ring's size: a power of two from 16 to 1,048,576
 abbrev pub minRing : ℕ
 minRing = 16
 
 abbrev pub maxRingLog : ℕ
-maxRingLog = 16
+maxRingLog = 20
 
 abbrev pub maxRing : ℕ
 maxRing = 2 ^ maxRingLog
@@ -29,7 +29,7 @@ abbrev pub minRxq : ℕ
 minRxq = 1
 
 abbrev pub maxRxq : ℕ
-maxRxq = 256
+maxRxq = 512
 
 -- K, the limit of the kill queue
 abbrev pub minKillq : ℕ
@@ -43,7 +43,7 @@ abbrev pub minSlots : ℕ
 minSlots = 1
 
 abbrev pub maxSlots : ℕ
-maxSlots = 512
+maxSlots = 1024
 
 -- the bytes of a packet's buffer, of a push or of a raw send
 abbrev pub maxPacket : ℕ

@@ -78,17 +78,17 @@ pub record StreamMeans : Type 0 where
 abbrev pub PowerOfTwo : ℕ → Type 0
 PowerOfTwo size = (k : ℕ) × (size ≡ 2 ^ k)
 
--- the quick test of a ring's size says what 01 says: a power of two from 16 to 65,536
+-- the quick test of a ring's size says what 01 says: a power of two from 16 to 1,048,576
 abbrev pub RingSizes : Type 0
-RingSizes = (size : ℕ) → Exactly (isRingSize size ≡ true) (PowerOfTwo size × (16 ≤ size) × (size ≤ 65536))
+RingSizes = (size : ℕ) → Exactly (isRingSize size ≡ true) (PowerOfTwo size × (16 ≤ size) × (size ≤ 1048576))
 
 -- so does every other test of a number: 01's limits ("The numbers of a connection", "The stream, the clock, the header") as numbers
 pub record LimitsMean : Type 0 where
   pub threshold : (t size : ℕ) → Exactly (isThreshold t size ≡ true) ((1 ≤ t) × (t ≤ size))
   pub timeout : (ms : ℕ) → Exactly (isTimeout ms ≡ true) ((1 ≤ ms) × (ms ≤ 60000))
-  pub rxq : (limit : ℕ) → Exactly (isRxqLimit limit ≡ true) ((1 ≤ limit) × (limit ≤ 256))
+  pub rxq : (limit : ℕ) → Exactly (isRxqLimit limit ≡ true) ((1 ≤ limit) × (limit ≤ 512))
   pub killq : (limit : ℕ) → Exactly (isKillqLimit limit ≡ true) ((1 ≤ limit) × (limit ≤ 128))
-  pub slots : (slots : ℕ) → Exactly (isSlotCount slots ≡ true) ((1 ≤ slots) × (slots ≤ 512))
+  pub slots : (slots : ℕ) → Exactly (isSlotCount slots ≡ true) ((1 ≤ slots) × (slots ≤ 1024))
   pub clock : (ms : ℕ) → Exactly (isClock ms ≡ true) (ms ≤ 2 ^ 62)
   pub packet : (bytes : ℕ) → Exactly (isPacketLength bytes ≡ true) (bytes ≤ 65536)
   pub header : (bytes : ℕ) → Exactly (isHeaderLength bytes ≡ true) (bytes ≡ 44)

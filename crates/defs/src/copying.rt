@@ -14,7 +14,7 @@ pub fn copy(dst: &mut [u8], src: &[u8])
     copy_whole(&mut dst[..n], &src[..n]);
 }
 
-// The same under a C name: what scripts/leaf-check takes apart.
+// The same under a C name: what scripts/leaf-check takes apart and scripts/lend-rings calls.
 #[no_mangle]
 pub extern "C" fn vsock_copy(dst: &mut [u8], src: &[u8])
     ensures { λ _. ⌜ now (dst .exit) ≡ copied (now (dst .entry)) (now (src .entry)) ⌝ }

@@ -6,7 +6,7 @@ ghost use Rattle.defs.specs.Limits.{isRingSize, isThreshold, isTimeout, 
 // R, the ring's size: a power of two between these.
 pub const MIN_RING_SIZE: u32 = 16;
 
-pub const MAX_RING_SIZE: u32 = 65536;
+pub const MAX_RING_SIZE: u32 = 1048576;
 
 // T, the credit update threshold: from this to R.
 pub const MIN_THRESHOLD: u32 = 1;
@@ -19,7 +19,7 @@ pub const MAX_TIMEOUT_MS: u64 = 60000;
 // Q, the limit of the RX queue.
 pub const MIN_RXQ_SIZE: usize = 1;
 
-pub const MAX_RXQ_SIZE: usize = 256;
+pub const MAX_RXQ_SIZE: usize = 512;
 
 // K, the limit of the kill queue.
 pub const MIN_KILLQ_SIZE: usize = 1;
@@ -29,7 +29,7 @@ pub const MAX_KILLQ_SIZE: usize = 128;
 // The slots of a connection table.
 pub const MIN_CONNECTIONS: usize = 1;
 
-pub const MAX_CONNECTIONS: usize = 512;
+pub const MAX_CONNECTIONS: usize = 1024;
 
 // The bytes of a packet's buffer, of a push or of a raw send.
 pub const MAX_PKT_BUF_SIZE: usize = 65536;

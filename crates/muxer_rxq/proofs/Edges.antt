@@ -1,4 +1,4 @@
--- 01's reading j and the builds at the limit, computed. Assumes nothing.
+-- 01's readings of the RX queue and the builds at the limit, computed. Assumes nothing.
 use mathlib.Core.Path.{refl}
 use Rattle.defs.specs.Choice.{when}
 use Rattle.defs.specs.Answer.{isDone, whenDone}
@@ -7,14 +7,19 @@ use Rattle.defs.specs.Ladder.{doorOf, recordAnswer}
 use Rattle.conn_map.specs.Key.{keyOf}
 use Rattle.conn_map.specs.Table.{usedAt, slotsFrom, slotsOf, chosen, gathered, anyBelow, hit, distinct, soundTable}
 use Rattle.queue.specs.Queue.{all, clearQ, soundQ}
-use Rattle.queue.specs.Queued.{hasRoom, madeOf, pushOf}
+use Rattle.queue.specs.Queued.{hasRoom, madeOf, newOf, pushOf}
 use Rattle.queue.specs.Pop.{popList, popOf}
 use Rattle.muxer_rxq.specs.Queue.{isZero}
 use Rattle.muxer_rxq.specs.Push.{lastConn, evictList, pushList}
 use Rattle.muxer_rxq.specs.Build.{builtFrom, buildAnswer, buildOf}
-use Rattle.muxer_rxq.specs.Edges.{readingJ, builds}
+use Rattle.muxer_rxq.specs.Edges.{readingJ, readingQ, readingSlots, builds}
 use Rattle.muxer_rxq.specs.Promises.{EdgesHold}
 
 pub edges-hold : EdgesHold
-unfolding when isDone whenDone isRxqLimit doorOf recordAnswer all clearQ soundQ hasRoom pushOf popList popOf isZero lastConn evictList pushList isSlotCount keyOf usedAt slotsFrom slotsOf chosen gathered anyBelow hit distinct soundTable madeOf builtFrom buildAnswer buildOf readingJ builds
-edges-hold = record { j = (refl, (refl, (refl, (refl, (refl, tt))))); builds = (refl, (refl, (refl, (refl, (refl, tt))))) }
+unfolding when isDone whenDone isRxqLimit doorOf recordAnswer all clearQ soundQ hasRoom pushOf popList popOf isZero lastConn evictList pushList isSlotCount keyOf usedAt slotsFrom slotsOf chosen gathered anyBelow hit distinct soundTable madeOf newOf builtFrom buildAnswer buildOf readingJ readingQ readingSlots builds
+edges-hold = record {
+  j = (refl, (refl, (refl, (refl, (refl, tt)))));
+  q = (refl, (refl, (refl, tt)));
+  slots = (refl, (refl, (refl, (refl, tt))));
+  builds = (refl, (refl, (refl, (refl, (refl, tt)))));
+}

@@ -26,8 +26,8 @@ zero-alone it e =
     let d : it .«peer_port» ≡ 0 = eqb-true _ _ (u .1) in
     λ i. record { rst = a i; «local_port» = b i; «peer_port» = d i }
 
--- Q is from 1 to 256
-pub in-range : (limit : ℕ) → Exactly (isRxqLimit limit ≡ true) ((1 ≤ limit) × (limit ≤ 256))
+-- the test of Q, by its two limits
+pub in-range : (limit : ℕ) → Exactly (isRxqLimit limit ≡ true) ((minRxq ≤ limit) × (limit ≤ maxRxq))
 unfolding isRxqLimit
 in-range limit = (
   λ e. (let p = both (leb minRxq limit) (leb limit maxRxq) e in (leb-true _ _ (p .0), leb-true _ _ (p .1))),
@@ -36,7 +36,7 @@ in-range limit = (
 
 pub sound-means : SoundMeans
 unfolding isZero
-sound-means = every.sound-means rxq refl zero-alone 1 256 in-range
+sound-means = every.sound-means rxq refl zero-alone minRxq maxRxq in-range
 
 pub lawful : Lawful rxq
 unfolding isZero

@@ -18,9 +18,9 @@ use Rattle.muxer_rxq.specs.Build.{BuildIn, BuildSays}
 use Rattle.muxer_rxq.specs.Outcomes.{Sound, AllRsts}
 use Rattle.muxer_rxq.specs.declared.rxq.MuxerRxQ.{MuxerRxQ}
 
--- Q, 1 to 256
+-- Q, 1 to 512
 abbrev pub InRange : ℕ → Type 0
-InRange limit = (1 ≤ limit) × (limit ≤ 256)
+InRange limit = (1 ≤ limit) × (limit ≤ 512)
 
 -- `is_synced`, `is_empty`, `is_full`, `len`, `peek`: 1
 abbrev pub LookAnswers : Type 0

@@ -22,9 +22,9 @@ use Rattle.muxer_rxq.specs.declared.rxq.MuxerRxQ.{MuxerRxQ}
 abbrev pub nothing : MuxerRx
 nothing = record { rst = false; «local_port» = 0; «peer_port» = 0 }
 
--- sound: Q from 1 to 256, the length within it, the zero item in every place from the length on
+-- sound: Q from 1 to 512, the length within it, the zero item in every place from the length on
 abbrev pub Sound : MuxerRxQ → Type 0
-Sound q = (1 ≤ q .limit) × (q .limit ≤ 256) × (q .len ≤ q .limit) × ((n : ℕ) → q .len ≤ n → getD (q .q) n nothing ≡ nothing)
+Sound q = (1 ≤ q .limit) × (q .limit ≤ 512) × (q .len ≤ q .limit) × ((n : ℕ) → q .len ≤ n → getD (q .q) n nothing ≡ nothing)
 
 -- its test says just that
 abbrev pub SoundMeans : Type 0

@@ -6,8 +6,8 @@ use defs::limits::MAX_PKT_BUF_SIZE;
 
 pub const HEAD: usize = 144;
 
-// As much as any run holds: a ring, a packet or a table, and a little more for those that are
-// refused.
+// As much as any run of this program holds: a ring that is no longer than a packet (02, 2026-10), a
+// packet or a table, and a little more for those that are refused.
 pub const ROOM: usize = MAX_PKT_BUF_SIZE + 64;
 
 // ---- reading: a place that the frame does not have reads as 0

@@ -16,14 +16,14 @@ use Rattle.rules.specs.Record.{okSettings, soundConn, soundOver, quiet, 
 use Rattle.rules.specs.Look.{evSetOf, killOf}
 use Rattle.rules.specs.Notify.{seenOf, absorbed, settledOf, drainedOf, notifyDoor, notifyAnswer, notifyDone, notifyKept, notifyOf}
 use Rattle.rules.specs.Offer.{notifyFlushes, notifyFirst, notifySecond}
-use Rattle.rules.specs.Open.{freshOf, openAnswer, peerInitOf, localInitOf}
+use Rattle.rules.specs.Open.{freshOf, zeroConn, openAnswer, peerInitOf, localInitOf}
 use Rattle.rules.specs.Receive.{spokenOf, receivedOf, headerOf, recvDoor, recvRefusal, recvDone, recvKept, recvOf}
 use Rattle.rules.specs.Send.{heardOf, movedOf, updatedOf, onResponse, onShutdown, onData, ruleOf, goesOf, planOf, killsOf, sendDoorOf, sendLate, carried, sendDoor, sendAnswer, sendDone, sendKept, sendOf}
-use Rattle.rules.specs.Edges.{readingA, readingBCD, readingE, readingF, readingG, readingH, readingI, readingK, readingL}
+use Rattle.rules.specs.Edges.{readingA, readingBCD, readingE, readingF, readingG, readingH, readingI, readingK, readingL, readingR}
 use Rattle.rules.specs.Promises.{EdgesHold}
 
 pub edges-hold : EdgesHold
-unfolding when isDone whenDone isRingSize isThreshold isTimeout isClock isPacketLength isHeaderLength doorOf lateOf lowestOf copied peerAvailCredit peerNeedsCreditUpdate encoded decoded soundRecord soundOf heldFrom held recordAnswer runs pushDone okSettings soundConn soundOver quiet creditOf withState killedOf evSetOf freshOf openAnswer peerInitOf localInitOf turnStep spokenOf receivedOf headerOf recvDoor turnReads recvRefusal recvDone recvKept recvOf heardOf movedOf updatedOf onResponse onShutdown onData ruleOf goesOf planOf killsOf sendDoorOf sendLate carried sendDoor takenBy overBy endsBy flushCount flushOver flushAnswer flushDone flushKept flushOf seenOf absorbed settledOf drainedOf notifyDoor notifyAnswer notifyDone notifyKept notifyOf firstPiece secondPiece notifyFlushes notifyFirst notifySecond clockAnswer flagOf sendAnswer sendDone sendKept sendOf readingA readingBCD readingE readingF readingG readingH readingI readingK readingL killOf
+unfolding when isDone whenDone isRingSize isThreshold isTimeout isClock isPacketLength isHeaderLength doorOf lateOf lowestOf copied peerAvailCredit peerNeedsCreditUpdate encoded decoded soundRecord soundOf heldFrom held recordAnswer runs pushDone okSettings soundConn soundOver quiet creditOf withState killedOf evSetOf freshOf openAnswer peerInitOf localInitOf turnStep spokenOf receivedOf headerOf recvDoor turnReads recvRefusal recvDone recvKept recvOf heardOf movedOf updatedOf onResponse onShutdown onData ruleOf goesOf planOf killsOf sendDoorOf sendLate carried sendDoor takenBy overBy endsBy flushCount flushOver flushAnswer flushDone flushKept flushOf seenOf absorbed settledOf drainedOf notifyDoor notifyAnswer notifyDone notifyKept notifyOf firstPiece secondPiece notifyFlushes notifyFirst notifySecond clockAnswer flagOf sendAnswer sendDone sendKept sendOf readingA readingBCD readingE readingF readingG readingH readingI readingK readingL readingR killOf zeroConn
 edges-hold = record {
   a = (refl, (refl, tt));
   bcd = (refl, (refl, (refl, (refl, (refl, (refl, (refl, tt)))))));
@@ -34,4 +34,5 @@ edges-hold = record {
   i = (refl, (refl, tt));
   k = (refl, (refl, (refl, (refl, (refl, (refl, tt))))));
   l = (refl, (refl, (refl, tt)));
+  r = (refl, (refl, (refl, (refl, (refl, (refl, tt))))));
 }

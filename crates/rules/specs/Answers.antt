@@ -30,11 +30,11 @@ use Rattle.rules.specs.declared.record.VsockConnection.{VsockConnection}
 
 -- ---- soundness
 
--- 01, "The numbers of a connection": R a power of two from 16 to 65,536, T from 1 to R, both timeouts from 1 to 60,000 ms
+-- 01, "The numbers of a connection": R a power of two from 16 to 1,048,576, T from 1 to R, both timeouts from 1 to 60,000 ms
 pub record InRange (size : ℕ) (g : Settings) : Type 0 where
   pub power : PowerOfTwo size
   pub least : 16 ≤ size
-  pub most : size ≤ 65536
+  pub most : size ≤ 1048576
   pub threshold : (1 ≤ g .threshold) × (g .threshold ≤ size)
   pub request : (1 ≤ g .«request_timeout») × (g .«request_timeout» ≤ 60000)
   pub shutdown : (1 ≤ g .«shutdown_timeout») × (g .«shutdown_timeout» ≤ 60000)

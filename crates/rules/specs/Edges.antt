@@ -1,12 +1,12 @@
--- The readings of 01 that a connection decides (R = 16, T = 4, timeouts 2,000): a to i, k as 2026-08 has it and l as 2026-07 has it. Assumes nothing.
+-- The readings of 01 that a connection decides (R = 16, T = 4, timeouts 2,000): a to i, k as 2026-08 has it and l as 2026-07 has it; and R's limit, as 2026-10 has it. Assumes nothing.
 use Prim.Native.Nat.{ℕ}
 use mathlib.Core.Bool.{Bool, true, false}
-use mathlib.Core.List.{List, [], _∷_, _++_}
+use mathlib.Core.List.{List, [], _∷_, _++_, map}
 use lib.ListN.{length, take, replicate}
-use Rattle.defs.specs.Answer.{told}
+use Rattle.defs.specs.Answer.{Told, told}
 use Rattle.defs.specs.Look.{FlagLeft}
 use Rattle.defs.specs.Reading.{Reading, _reads_}
-use Rattle.defs.specs.declared.answer.Answer.the-variants.{Done}
+use Rattle.defs.specs.declared.answer.Answer.the-variants.{Done, BadRecord}
 use Rattle.defs.specs.declared.stream.StreamAnswer.the-variants.{Count, WouldBlock, Failed}
 use Rattle.defs.specs.declared.stream.ReadAnswer.{ReadAnswer}
 use Rattle.defs.specs.declared.stream.ReadAnswer.the-variants.{Count as ReadCount, WouldBlock as ReadWouldBlock}
@@ -22,7 +22,7 @@ use Rattle.csm.specs.declared.timer.Timer.{Timer}
 use Rattle.csm.specs.declared.timer.Timer.the-variants.{Unset, At}
 use Rattle.csm.specs.declared.state.ConnState.the-variants.{Established, LocalClosed, Killed}
 use Rattle.rules.specs.Record.{creditOf, withState}
-use Rattle.rules.specs.Open.{freshOf, peerInitOf, localInitOf, Opening}
+use Rattle.rules.specs.Open.{freshOf, zeroConn, peerInitOf, localInitOf, Opening, ConnLeft}
 use Rattle.rules.specs.Look.{hasExpiredOf, evSetOf, killOf}
 use Rattle.rules.specs.Notify.{NotifyLeft, notifyOf}
 use Rattle.rules.specs.Offer.{notifyFirst, notifySecond}
@@ -30,17 +30,21 @@ use Rattle.rules.specs.Receive.{RecvLeft, recvOf}
 use Rattle.rules.specs.Send.{SendLeft, sendOf}
 use Rattle.rules.specs.declared.record.VsockConnection.{VsockConnection}
 
--- a guest's opening: CIDs 2 and 3, ports 1024 and 5000, with so much space
-abbrev opening : ℕ → Opening
-opening alloc = record {
-  size = 16;
-  settings = record { threshold = 4; «request_timeout» = 2000; «shutdown_timeout» = 2000 };
+-- an opening by R, T and the guest's space: CIDs 2 and 3, ports 1024 and 5000
+abbrev sized : ℕ → ℕ → ℕ → Opening
+sized size threshold alloc = record {
+  size = size;
+  settings = record { threshold = threshold; «request_timeout» = 2000; «shutdown_timeout» = 2000 };
   «local_cid» = 2;
   «peer_cid» = 3;
   «local_port» = 1024;
   «peer_port» = 5000;
   alloc = alloc;
 }
+
+-- R = 16, T = 4, with so much space
+abbrev opening : ℕ → Opening
+opening alloc = sized 16 4 alloc
 
 abbrev ring : ℕ → TxBuf
 ring head = record { size = 16; head = head; tail = 0 }
@@ -228,3 +232,29 @@ silent = turn (reset .conn) false ReadWouldBlock
 -- l: RST; then answer 7, and Killed
 unfoldable pub readingL : List Reading
 readingL = (decoded (reset .hdr) .op reads opRst) ∷ (silent .answer .number reads 7) ∷ (silent .conn .state reads Killed) ∷ []
+
+-- the guest's opening and the host's, where T is R
+abbrev openings : ℕ → List ConnLeft
+openings size = peerInitOf (sized size size 100) ∷ localInitOf (sized size size 0) ∷ []
+
+-- answer and ring of each
+abbrev rings : List ConnLeft → List (Told × TxBuf)
+rings lefts = map (λ (left : ConnLeft). (left .answer, left .conn .«tx_buf»)) lefts
+
+-- both are done, with an empty ring of that size; both are refused, with the all-zero record
+abbrev opened : ℕ → List (Told × TxBuf)
+opened size = replicate 2 (told Done, record { size = size; head = 0; tail = 0 })
+
+abbrev refused : List ConnLeft
+refused = replicate 2 (record { answer = told BadRecord; conn = zeroConn })
+
+-- R, as 2026-10 has it: over the 65,536 of before, up to 1,048,576; then one less, one more, and the next power of two
+unfoldable pub readingR : List Reading
+readingR =
+    (rings (openings 131072) reads opened 131072)
+    ∷ (rings (openings 524288) reads opened 524288)
+    ∷ (rings (openings 1048576) reads opened 1048576)
+    ∷ (openings 1048575 reads refused)
+    ∷ (openings 1048577 reads refused)
+    ∷ (openings 2097152 reads refused)
+    ∷ []

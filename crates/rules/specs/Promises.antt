@@ -13,7 +13,7 @@ use Rattle.rules.specs.Send.{SendIn, SendLeft, SendSays, accepted}
 use Rattle.rules.specs.Notify.{NotifyIn, NotifyLeft, NotifySays}
 use Rattle.rules.specs.Offer.{sendOffers, recvTaken, recvAsks, notifyOffered, notifyOffers, notifyFirst, notifySecond}
 use Rattle.rules.specs.Moves.{Numbers, account, sendTaken, notifyTaken, Moved}
-use Rattle.rules.specs.Edges.{readingA, readingBCD, readingE, readingF, readingG, readingH, readingI, readingK, readingL}
+use Rattle.rules.specs.Edges.{readingA, readingBCD, readingE, readingF, readingG, readingH, readingI, readingK, readingL, readingR}
 use Rattle.rules.specs.declared.record.VsockConnection.{VsockConnection}
 
 -- a packet: what the stream took, then what is held, is what was held, then what was accepted
@@ -61,3 +61,4 @@ pub record EdgesHold : Type 0 where
   pub i : Hold readingI
   pub k : Hold readingK
   pub l : Hold readingL
+  pub r : Hold readingR

@@ -24,7 +24,10 @@ fn sizes() {
     size(MIN_RING_SIZE / 2);
     size(MIN_RING_SIZE);
     size(24);
+    size(MAX_RING_SIZE / 8);
+    size(MAX_RING_SIZE - 1);
     open(MAX_RING_SIZE, MAX_RING_SIZE, MAX_TIMEOUT_MS, MAX_TIMEOUT_MS);
+    size(MAX_RING_SIZE + 1);
     size(2 * MAX_RING_SIZE);
 }
 

@@ -16,6 +16,7 @@ use muxer_rxq::MuxerRxQ;
 pub fn limits() {
     new(MIN_RXQ_SIZE - 1);
     new(MIN_RXQ_SIZE);
+    new(MAX_RXQ_SIZE / 2 + 1);
     new(MAX_RXQ_SIZE);
     new(MAX_RXQ_SIZE + 1);
 }
@@ -120,7 +121,7 @@ pub fn tables() {
     wide();
 }
 
-// As many slots as a table may have and one more, of which few are used.
+// As many slots as a table may have, one more, and one over half as many, of which few are used.
 fn wide() {
     let ports = [0u64; MAX_CONNECTIONS + 1];
     let mut used = [0u8; MAX_CONNECTIONS + 1];
@@ -129,6 +130,12 @@ fn wide() {
     used[n - 1] = 1;
     build(MAX_RXQ_SIZE, &ports[..n], &used[..n], &pending[..n]);
     build(MAX_RXQ_SIZE, &ports, &used, &pending);
+    build(
+        MAX_RXQ_SIZE,
+        &ports[n / 2..],
+        &used[n / 2..],
+        &pending[n / 2..],
+    );
     used[0] = 1;
     build(MAX_RXQ_SIZE, &ports[..n], &used[..n], &pending[..n]);
     many();

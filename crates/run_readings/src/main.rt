@@ -1,8 +1,10 @@
-// Runs 01's readings through the code, a line each: the letter, then what came out.
+// Runs 01's readings through the code, a line each: the letter, or the number whose limit it is, then
+// what came out.
 mod data;
 mod ends;
 mod queues;
 mod scene;
+mod sizes;
 
 fn main() {
     data::reading_a();
@@ -15,4 +17,7 @@ fn main() {
     queues::reading_j();
     ends::reading_k();
     ends::reading_l();
+    sizes::reading_r();
+    sizes::reading_slots();
+    sizes::reading_q();
 }

@@ -13,12 +13,12 @@ use packet::uapi;
 use text::named;
 use text::say;
 
-// The settings of every reading: R, T, and both timeouts.
+// The settings of readings a to l: R, T, and both timeouts.
 pub const SIZE: u32 = 16;
 
 const THRESHOLD: u32 = 4;
 
-const TIMEOUT: u64 = 2000;
+pub const TIMEOUT: u64 = 2000;
 
 fn settings() -> Settings {
     Settings {

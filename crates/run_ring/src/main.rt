@@ -16,7 +16,7 @@ use txbuf::TxBuf;
 // The ring of most runs.
 const SIZE: usize = 16;
 
-// A ring that the longest push fills.
+// A ring that the longest push fills, and the largest that a program here holds (02, 2026-10).
 const LARGE: usize = MAX_PKT_BUF_SIZE;
 
 fn main() {
@@ -117,6 +117,9 @@ fn sizes() {
     size(MIN_RING_SIZE + 1);
     size(24);
     size(2 * MIN_RING_SIZE);
+    size(LARGE as u32);
+    size(2 * LARGE as u32);
+    size(MAX_RING_SIZE / 2);
     size(MAX_RING_SIZE - 1);
     size(MAX_RING_SIZE);
     size(MAX_RING_SIZE + 1);

@@ -5,10 +5,10 @@ use Rattle.defs.specs.Answer.{isDone, whenDone}
 use Rattle.defs.specs.Limits.{isRingSize, isPacketLength}
 use Rattle.defs.specs.Ladder.{doorOf, lateOf, lowestOf, recordAnswer}
 use Rattle.defs.specs.Copying.{copied}
-use Rattle.txbuf.specs.Record.{soundRecord, soundOf, heldFrom, held}
+use Rattle.txbuf.specs.Record.{soundRecord, soundOf, heldFrom, held, newOf}
 use Rattle.txbuf.specs.Push.{runs, pushAnswer, pushDone, pushKept, pushOf}
 use Rattle.txbuf.specs.Flush.{firstPiece, takenBy, overBy, endsBy, flushCount, flushOver, flushAnswer, secondPiece, flushDone, flushKept, flushOf}
-use Rattle.txbuf.specs.Edges.{readingBCD, readingF}
+use Rattle.txbuf.specs.Edges.{readingBCD, readingF, readingR}
 use Rattle.txbuf.specs.Promises.{TwoRunsAreOneWrite, HeldIsCounted, PushAppends, FirstPieceIsOldest, UnsoundHasNoPiece, PiecesAreHeld, FlushTakesOldest, FlushProgresses, EdgesHold}
 use Rattle.txbuf.specs.Answers.{PushAnswers, NumberedAnswers, FlushAnswers, NewAnswers, LookAnswers}
 use Rattle.txbuf.specs.Means.{SoundMeans}
@@ -90,5 +90,9 @@ pub looks-mean : LooksMean
 looks-mean = done.looks-mean
 
 pub edges-hold : EdgesHold
-unfolding when isDone whenDone isRingSize isPacketLength doorOf lateOf lowestOf copied soundRecord soundOf recordAnswer heldFrom held runs pushAnswer pushDone pushKept pushOf firstPiece takenBy overBy endsBy flushCount flushOver flushAnswer secondPiece flushDone flushKept flushOf readingBCD readingF
-edges-hold = record { bcd = (refl, (refl, (refl, tt))); f = (refl, (refl, (refl, (refl, tt)))) }
+unfolding when isDone whenDone isRingSize isPacketLength doorOf lateOf lowestOf copied soundRecord soundOf recordAnswer heldFrom held runs pushAnswer pushDone pushKept pushOf firstPiece takenBy overBy endsBy flushCount flushOver flushAnswer secondPiece flushDone flushKept flushOf newOf readingBCD readingF readingR
+edges-hold = record {
+  bcd = (refl, (refl, (refl, tt)));
+  f = (refl, (refl, (refl, (refl, tt))));
+  r = (refl, (refl, (refl, (refl, (refl, (refl, (refl, (refl, (refl, (refl, (refl, (refl, (refl, tt)))))))))))));
+}

@@ -43,7 +43,7 @@ FlushAnswers = (i : FlushIn) (left : FlushLeft) → FlushSays i left → Answers
 
 -- `new`: 1 exactly where R is out of range
 abbrev pub NewAnswers : Type 0
-NewAnswers = (size : ℕ) (left : NewLeft) → NewSays size left → AnswersInTurn (left .answer) ((1, PowerOfTwo size × (16 ≤ size) × (size ≤ 65536) → ⊥) ∷ [])
+NewAnswers = (size : ℕ) (left : NewLeft) → NewSays size left → AnswersInTurn (left .answer) ((1, PowerOfTwo size × (16 ≤ size) × (size ≤ 1048576) → ⊥) ∷ [])
 
 -- `len` and `is_empty`: 1 exactly where the record, no storage being lent, is not sound
 pub record LookAnswers : Type 0 where

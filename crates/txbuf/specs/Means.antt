@@ -16,11 +16,11 @@ use Rattle.txbuf.specs.declared.record.TxBuf.{TxBuf}
 abbrev pub bytesHeld : TxBuf → ℕ
 bytesHeld b = wsub (b .head) (b .tail)
 
--- 01, "The numbers of a connection": R is a power of two from 16 to 65,536, and head minus tail is at most R
+-- 01, "The numbers of a connection": R is a power of two from 16 to 1,048,576, and head minus tail is at most R
 pub record Sound (b : TxBuf) : Type 0 where
   pub power : PowerOfTwo (b .size)
   pub least : 16 ≤ b .size
-  pub most : b .size ≤ 65536
+  pub most : b .size ≤ 1048576
   pub within : bytesHeld b ≤ b .size
 
 -- and the ring storage, of so many bytes, is exactly R

@@ -12,7 +12,7 @@ use Rattle.txbuf.specs.Record.{Wide, usedOf, soundOf, held}
 use Rattle.txbuf.specs.Push.{runs, written, PushIn, PushLeft, PushSays}
 use Rattle.txbuf.specs.Flush.{firstPiece, secondPiece, FlushIn, FlushLeft, FlushSays}
 use Rattle.txbuf.specs.Means.{SoundOver, firstLength}
-use Rattle.txbuf.specs.Edges.{readingBCD, readingF}
+use Rattle.txbuf.specs.Edges.{readingBCD, readingF, readingR}
 use Rattle.txbuf.specs.declared.record.TxBuf.{TxBuf}
 
 -- the two runs of a push are one write, each byte at its place modulo the size
@@ -61,3 +61,4 @@ FlushProgresses =
 pub record EdgesHold : Type 0 where
   pub bcd : Hold readingBCD
   pub f : Hold readingF
+  pub r : Hold readingR

@@ -36,7 +36,8 @@ impl TxBuf {
     }
 }
 
-// The same under a C name, by 01's number: what scripts/leaf-check takes apart.
+// The same under a C name, by 01's number: what scripts/leaf-check takes apart and scripts/lend-rings
+// calls.
 #[no_mangle]
 pub extern "C" fn vsock_ring_push(ring: TxBuf, storage: &mut [u8], src: &[u8]) -> u8
     ensures { λ r. ⌜ NumberedSays (record { ring = ring; store = now (storage .entry); src = now (src .entry) }) (record { number = r; store = now (storage .exit) }) ⌝ }

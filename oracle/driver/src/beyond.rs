@@ -101,6 +101,10 @@ fn rings(say: &mut impl FnMut(String) -> Result<()>) -> Result<()> {
         apart(LONG),
         apart(MAX_PKT_BUF_SIZE)
     ))?;
+    settings::set_ring(2 * size);
+    let pushed = calls::rust_ring(&calls::ring_of(2 * size, 0, 0), &[]).push(&[0; LONG]);
+    let twice = apart(2 * MAX_PKT_BUF_SIZE);
+    say(format!("the same on one of {twice}: {pushed:?}"))?;
     settings::set_ring(16);
     let long = calls::rust_ring(&calls::ring_of(16, 17, 0), &[7; 16]).len();
     say(format!(
@@ -247,7 +251,8 @@ fn queues(say: &mut impl FnMut(String) -> Result<()>) -> Result<()> {
     });
     let built = MuxerRxQ::from_conn_map(&pending);
     say(format!(
-        "a build of {many} slots: {} items, synced {}",
+        "a build of {} slots: {} items, synced {}",
+        apart(many),
         built.q.len(),
         built.synced
     ))?;

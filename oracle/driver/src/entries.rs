@@ -44,6 +44,14 @@ pub const KILLQ_PEEK: u8 = 49;
 pub const HDR_READ: u8 = 51;
 pub const HDR_WRITE: u8 = 52;
 
+/// The calls that are lent a ring's storage.
+pub fn lends(entry: u8) -> bool {
+    matches!(
+        entry,
+        RING_PUSH..=RING_SECOND_PIECE | SEND_PKT | NOTIFY | SEND_ASKED | NOTIFY_ASKED
+    )
+}
+
 /// The names in the Rust; behind a comma what it has no name for.
 pub const NAMES: [(u8, &str); 44] = [
     (RING_NEW, "TxBuf::default"),

@@ -20,7 +20,8 @@ use std::io::{BufReader, BufWriter, Read, Result, Write};
 use frame::{at, Frame};
 
 const USAGE: &str = "usage: oracle COMMAND
-  gen SEED BATCH CALLS >calls     makes calls
+  gen SEED BATCH CALLS [LENT] >calls
+                                  makes calls; rings are lent up to LENT bytes, a packet's if not said
   run <calls >replies             runs calls through the Rust
   sized OVER MOST CALLS <calls    keeps the first calls whose bytes are over one number and at most another
   tally <replies                  counts replies by entry, answer and mark
@@ -32,6 +33,11 @@ const USAGE: &str = "usage: oracle COMMAND
   killed <calls                   counts calls that kill while more than a reset is pending, by what
                                   kills (a failed write, a full ring, a failed flush, `kill`), and
                                   failed flushes that fall short of the threshold
+  larger <calls                   counts compared calls over the limits before 2026-10: on rings those
+                                  that lend the storage, of which so many go round its end and so
+                                  many take a piece longer than a packet, and those that lend none;
+                                  builds from tables; calls on RX queues, of which so many hold
+                                  more items than before
   show calls|replies <frames      prints them
   differ CALLS REPLIES OTHERS     prints the first call whose replies differ
   beyond                          what the Rust does where docs/DIFFERENCES.md says that it differs";
@@ -42,12 +48,18 @@ fn main() -> Result<()> {
     let input = &mut BufReader::with_capacity(1 << 16, std::io::stdin().lock());
     let output = &mut BufWriter::with_capacity(1 << 16, std::io::stdout().lock());
     match words[..] {
-        ["gen", seed, batch, calls] => gen(number(seed), number(batch), number(calls), output)?,
+        ["gen", seed, batch, calls, ref lent @ ..] if lent.len() < 2 => {
+            let packet = limits::MAX_PKT_BUF_SIZE as u64;
+            let lent = lent.first().map_or(packet, |word| number(word)) as u32;
+            let maker = make::Maker::new(number(seed), number(batch), lent);
+            gen(maker, number(calls), output)?
+        }
         ["run"] => run(input, output)?,
         ["states"] => states(input, output)?,
         ["shrunk"] => shrunk(input, output)?,
         ["shut"] => shut(input, output)?,
         ["killed"] => killed(input, output)?,
+        ["larger"] => larger(input, output)?,
         ["show", what] => {
             while let Some(frame) = Frame::read(input)? {
                 let text = match what {
@@ -75,8 +87,7 @@ fn number(word: &str) -> u64 {
     word.parse().expect("a number")
 }
 
-fn gen(seed: u64, batch: u64, calls: u64, output: &mut impl Write) -> Result<()> {
-    let mut maker = make::Maker::new(seed, batch);
+fn gen(mut maker: make::Maker, calls: u64, output: &mut impl Write) -> Result<()> {
     (0..calls).try_for_each(|_| maker.next_call().write(output))
 }
 
@@ -232,6 +243,49 @@ fn killed(input: &mut impl Read, output: &mut impl Write) -> Result<()> {
             _ => continue,
         };
         counts[by] += (pending & !4 != 0) as u64;
+    }
+    writeln!(output, "{}", counts.map(|n| n.to_string()).join(" "))
+}
+
+/// How many compared calls go over the limits before 2026-10. On rings: those that lend the storage, of
+/// them those that write or take bytes round its end and those that take more than a packet's bytes of
+/// the first piece, and those that lend none. Builds from tables. Calls on RX queues, and of them those
+/// that hold more items.
+fn larger(input: &mut impl Read, output: &mut impl Write) -> Result<()> {
+    const RING: u32 = 65_536;
+    const SLOTS: usize = 512;
+    const QUEUE: u64 = 256;
+    let mut counts = [0u64; 7];
+    while let Some(call) = Frame::read(input)? {
+        if call.u8(at::MARK) != frame::BY_RUST {
+            continue;
+        }
+        match call.entry() {
+            entry @ entries::RING_NEW..=entries::RAW_ASKED => {
+                let ring = record::Ring::read(&call);
+                if ring.size <= RING {
+                    continue;
+                }
+                counts[if entries::lends(entry) { 0 } else { 3 }] += 1;
+                use entries::*;
+                if matches!(entry, RING_PUSH | RING_FLUSH_TO | SEND_PKT | NOTIFY) {
+                    let left = record::Ring::read(&calls::reply(&call));
+                    let pushed = left.head.wrapping_sub(ring.head);
+                    let taken = left.tail.wrapping_sub(ring.tail);
+                    let round = ring.head % ring.size + pushed > ring.size || taken > ring.first();
+                    counts[1] += round as u64;
+                    counts[2] += (taken.min(ring.first()) > RING) as u64;
+                }
+            }
+            entries::RXQ_FROM_CONN_MAP | entries::KILLQ_FROM_CONN_MAP => {
+                counts[4] += (call.runs[frame::USED].len() > SLOTS) as u64
+            }
+            entries::RXQ_NEW..=entries::RXQ_IS_FULL => {
+                counts[5] += (call.u64(at::LIMIT) > QUEUE) as u64;
+                counts[6] += (call.u64(at::QUEUE_LEN) > QUEUE) as u64;
+            }
+            _ => (),
+        }
     }
     writeln!(output, "{}", counts.map(|n| n.to_string()).join(" "))
 }

@@ -11,11 +11,14 @@ mod walks;
 use crate::calls;
 use crate::frame::*;
 use crate::record::*;
+use ring::WALKED;
 use walks::{Mood, Walk};
 
 pub struct Maker {
     /// The state of chance.
     state: u64,
+    /// The largest ring whose storage is lent; larger ones are met by calls that lend none.
+    lent: u32,
     /// The call that is being made belongs to a walk; and to which of two.
     walks: bool,
     walk: usize,
@@ -28,13 +31,14 @@ pub struct Maker {
 }
 
 impl Maker {
-    pub fn new(seed: u64, batch: u64) -> Self {
+    pub fn new(seed: u64, batch: u64, lent: u32) -> Self {
         let conn = || Walk::from((calls::zero_conn(), vec![]));
         let ring = || Walk::from((calls::ring_of(0, 0, 0), vec![]));
         let mut maker = Maker {
             // By another factor than `next` adds, or one seed's draws would be the next one's.
             state: seed.wrapping_mul(0xbf58_476d_1ce4_e5b9)
                 ^ batch.wrapping_mul(0xd134_2543_de82_ef95),
+            lent,
             walks: false,
             walk: 0,
             mood: Mood::Wild,
@@ -43,9 +47,19 @@ impl Maker {
             rxq: Queue::empty(1),
             killq: Queue::empty(1),
         };
-        maker.conns[0] = Walk::from(maker.any_conn());
-        maker.rings[0] = Walk::from(maker.any_ring());
+        maker.conns[0] = maker.start(Self::any_conn, |conn| conn.ring.size);
+        maker.rings[0] = maker.start(Self::any_ring, |ring| ring.size);
         maker
+    }
+
+    /// Where a walk starts: on a ring that is walked on.
+    fn start<T>(&mut self, draw: fn(&mut Self) -> (T, Vec<u8>), size: fn(&T) -> u32) -> Walk<T> {
+        loop {
+            let place = draw(self);
+            if size(&place.0) <= WALKED {
+                return Walk::from(place);
+            }
+        }
     }
 
     /// The next call, marked.

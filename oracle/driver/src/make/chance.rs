@@ -106,7 +106,7 @@ impl Maker {
 
     /// A room for the outgoing bytes, mostly enough for n.
     pub(super) fn room(&mut self, n: u64) -> Vec<u8> {
-        let n = n.min(MAX_PKT_BUF_SIZE as u64) as usize;
+        let n = n.min(self.lent as u64) as usize;
         let length = match self.below(24) {
             0 => 0,
             1 => n.saturating_sub(1),

@@ -142,13 +142,16 @@ impl Maker {
         }
         let entry = self.conn_entry();
         let opens = matches!(entry, NEW_PEER_INIT | NEW_LOCAL_INIT);
-        let (conn, storage) = match self.walks && !opens {
+        let (mut conn, mut storage) = match self.walks && !opens {
             true => self.conn_walk(),
             false => self.any_conn(),
         };
+        while !self.may_meet(entry, conn.ring.size) {
+            (conn, storage) = self.any_conn();
+        }
         let mut call = Frame::new(entry);
         conn.put(&mut call);
-        call.runs[STORAGE] = storage;
+        call.runs[STORAGE] = self.carried(entry, conn.ring.size, storage);
         match entry {
             SEND_PKT | SEND_ASKED => self.packet_in(&mut call, &conn),
             RECV_PKT | RECV_ASKED => self.packet_out(&mut call, &conn),

@@ -5,16 +5,13 @@ use crate::frame::*;
 use crate::limits::*;
 use crate::record::Ring;
 
-/// The largest ring whose storage is lent here; larger ones, where 01 has such, are met by calls
-/// that lend none, and not walked on.
-pub(super) const LENT: u32 = if MAX_RING_SIZE < MAX_PKT_BUF_SIZE as u32 {
-    MAX_RING_SIZE
-} else {
-    MAX_PKT_BUF_SIZE as u32
-};
+/// The largest ring that is walked on, as every call of a walk carries its storage. Larger ones are
+/// met by single calls, and only those that lend the storage carry it.
+pub(super) const WALKED: u32 = MAX_PKT_BUF_SIZE as u32;
 
 impl Maker {
-    /// A size: small ones most often, as their edges are near; seldom one that is out of range.
+    /// A size: small ones most often, as their edges are near; at times one over those that are walked
+    /// on, more often where such are lent; seldom one that is out of range.
     fn size(&mut self) -> u32 {
         let wrong = [
             0,
@@ -28,10 +25,14 @@ impl Maker {
             u32::MAX,
         ];
         let powers = (MAX_RING_SIZE / MIN_RING_SIZE).ilog2() as u64;
+        let large = if self.lent > WALKED { 19 } else { 12 };
         match self.below(100) {
             0 => self.pick(&wrong),
-            1 => LENT,
+            1 => WALKED,
             2..9 => MIN_RING_SIZE << self.even(0, powers),
+            n @ 9..40 if n < large => {
+                WALKED << self.even(1, (MAX_RING_SIZE / WALKED).ilog2() as u64)
+            }
             9..40 => MIN_RING_SIZE << self.below(5),
             _ => MIN_RING_SIZE,
         }
@@ -39,7 +40,7 @@ impl Maker {
 
     /// The bytes of a ring's storage: as many as its size, but for a few.
     pub(super) fn storage(&mut self, size: u32) -> Vec<u8> {
-        let size = size.min(LENT) as usize;
+        let size = size.min(self.lent) as usize;
         let length = match self.below(200) {
             0 => size + 1,
             1 => size.saturating_sub(1),
@@ -50,6 +51,19 @@ impl Maker {
             true => vec![0; length],
             false => self.bytes(length),
         }
+    }
+
+    /// Whether a call may meet a ring of this size: not where it would lend more than is lent.
+    pub(super) fn may_meet(&self, entry: u8, size: u32) -> bool {
+        !lends(entry) || size <= self.lent || !Ring::is_size(size)
+    }
+
+    /// What of a storage the call's frame carries: little, where that of a large ring is not lent.
+    pub(super) fn carried(&self, entry: u8, size: u32, mut storage: Vec<u8>) -> Vec<u8> {
+        if size > WALKED && !lends(entry) {
+            storage.truncate(MIN_RING_SIZE as usize);
+        }
+        storage
     }
 
     pub(super) fn any_ring(&mut self) -> (Ring, Vec<u8>) {
@@ -87,20 +101,24 @@ impl Maker {
             36..38 => RING_FIRST_PIECE,
             _ => RING_SECOND_PIECE,
         };
-        let (ring, storage) = match self.walks {
+        let (mut ring, mut storage) = match self.walks {
             true => self.ring_walk(),
             false => self.any_ring(),
         };
+        while !self.may_meet(entry, ring.size) {
+            (ring, storage) = self.any_ring();
+        }
         let mut call = Frame::new(entry);
         ring.put(&mut call);
-        call.runs[STORAGE] = storage;
+        call.runs[STORAGE] = self.carried(entry, ring.size, storage);
         let held = ring.held() as u64;
         let first = ring.first() as u64;
         match entry {
             RING_NEW => {
                 let size = self.size();
                 call.set_u32(at::SIZE, size);
-                call.runs[STORAGE] = self.storage(size);
+                let storage = self.storage(size);
+                call.runs[STORAGE] = self.carried(entry, size, storage);
             }
             RING_PUSH => {
                 let most = MAX_PKT_BUF_SIZE as u64;

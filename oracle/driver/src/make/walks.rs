@@ -1,7 +1,7 @@
 //! Walks, in which each call is given what the last one left. Of connections and rings there are two
 //! at a time: one that opens anew every fifty calls or so, and one that starts just below 2^32, where
 //! the counters wrap, and goes on for thousands of calls.
-use super::ring::LENT;
+use super::ring::WALKED;
 use super::Maker;
 use crate::entries::*;
 use crate::frame::*;
@@ -110,7 +110,7 @@ impl Maker {
         let ring = &mut self.rings[self.walk];
         let conn = &mut self.conns[self.walk];
         match reply.entry() {
-            RING_NEW | NEW_PEER_INIT | NEW_LOCAL_INIT if reply.u32(at::SIZE) > LENT => (),
+            RING_NEW | NEW_PEER_INIT | NEW_LOCAL_INIT if reply.u32(at::SIZE) > WALKED => (),
             RING_NEW => {
                 ring.record = Ring::read(reply);
                 ring.storage = vec![0; ring.record.size as usize];

@@ -1,12 +1,12 @@
--- `replay_all` is safe and ends: each turn brings it nearer to the most calls that it makes, and
+-- `vsock_replay` is safe and ends: each turn brings it nearer to the most calls that it makes, and
 -- leaves each room as long as it was.
 use native.Mathlib.Omega.{arith}
 use mathlib.Core.Path.{_≡_}
 use lib.ListN.{length}
 use borrow.Author.Needs.{needs}
 use Prim.Native.Nat.{_-_}
-use Rattle.replay_calls.proofs.replay_all.Statement.{statement}
-use Rattle.replay_calls.proofs.replay_all.Tie as tie
+use Rattle.replay_calls.proofs.replay.vsock_replay.Statement.{statement}
+use Rattle.replay_calls.proofs.replay.vsock_replay.Tie as tie
 
 abbrev Inv-loop : tie.InvT-loop
 Inv-loop storage₀ hdr₀ buf₀ bytes₀ out₀ turn₀ storage hdr buf bytes out turn =
@@ -70,8 +70,8 @@ same-length-10 c = omega arith
 returns-2 : tie.Need-returns-2 Inv-loop μ-loop
 returns-2 c = search needs
 
-pub replay-all-spec : {M : Type 1} → statement M
-replay-all-spec =
+pub vsock-replay-spec : {M : Type 1} → statement M
+vsock-replay-spec =
     tie.close
     (tie.spec
     Inv-loop
