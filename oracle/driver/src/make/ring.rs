@@ -28,8 +28,8 @@ impl Maker {
         let large = if self.lent > WALKED { 19 } else { 12 };
         match self.below(100) {
             0 => self.pick(&wrong),
-            1 => WALKED,
-            2..9 => MIN_RING_SIZE << self.even(0, powers),
+            1..3 => WALKED,
+            3..9 => MIN_RING_SIZE << self.even(0, powers),
             n @ 9..40 if n < large => {
                 WALKED << self.even(1, (MAX_RING_SIZE / WALKED).ilog2() as u64)
             }
