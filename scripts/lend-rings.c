@@ -2,7 +2,6 @@
 // push, and has the proved leaf make copies of more than one run. Each answer and every byte are held to a plain loop over the places.
 #include <stdint.h>
 #include <stdio.h>
-#include <stdlib.h>
 #include <string.h>
 
 struct ring {

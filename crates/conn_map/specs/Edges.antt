@@ -41,10 +41,13 @@ sameMark =
     ∷ (soundTable (5 ∷ (markCount + 5) ∷ 5 ∷ []) (1 ∷ 1 ∷ 1 ∷ []) 3 reads false)
     ∷ []
 
+-- so many slots, all 0 but for the last two
+abbrev pub lastTwo : ℕ → ℕ → ℕ → List ℕ
+lastTwo slots a b = replicate (slots - 2) 0 ++ (a ∷ b ∷ [])
+
 -- a table of so many slots, of which the last two are used, with these ports
 abbrev many : ℕ → ℕ → ℕ → Bool
-many slots a b =
-    soundTable (replicate (slots - 2) 0 ++ (a ∷ b ∷ [])) (replicate (slots - 2) 0 ++ (1 ∷ 1 ∷ [])) slots
+many slots a b = soundTable (lastTwo slots a b) (lastTwo slots 1 1) slots
 
 -- the table, as 2026-10 has it: over the 512 slots of before, the most, and one more; the most with the same ports twice
 unfoldable pub readingSlots : List Reading

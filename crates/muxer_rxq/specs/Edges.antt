@@ -1,11 +1,12 @@
 -- The readings of 01 that the RX queue decides: j (Q = 2), the limits on both sides of Q's, and a build from the largest table; and a build with as many slots pending as the limit, and with one more. Assumes nothing.
-use Prim.Native.Nat.{ℕ, _+_, _-_, _*_, _^_}
+use Prim.Native.Nat.{ℕ, _+_, _*_, _^_}
 use mathlib.Core.Bool.{Bool, true, false}
-use mathlib.Core.List.{List, [], _∷_, _++_}
+use mathlib.Core.List.{List, [], _∷_}
 use lib.ListN.{replicate}
 use Rattle.defs.specs.Answer.{told}
 use Rattle.defs.specs.Reading.{Reading, _reads_}
 use Rattle.defs.specs.declared.answer.Answer.the-variants.{Done, BadRecord, NotQueued}
+use Rattle.conn_map.specs.Edges.{lastTwo}
 use Rattle.queue.specs.Queued.{QueuedLeft, newOf}
 use Rattle.muxer_rxq.specs.Queue.{rxq, pack}
 use Rattle.muxer_rxq.specs.Push.{pushOf}
@@ -55,22 +56,22 @@ abbrev built : ℕ → List ℕ → QueuedLeft MuxerRxQ
 built limit pending =
     buildOf (record { limit = limit; ports = slot 1 ∷ slot 2 ∷ slot 3 ∷ slot 4 ∷ []; used = 1 ∷ 1 ∷ 1 ∷ 0 ∷ []; pending = pending })
 
--- Q = 2: two slots pending, and three: the first two, and unsynced; none pending; limits 0 and 513
-unfoldable pub builds : List Reading
-builds =
-    (built 2 (1 ∷ 0 ∷ 1 ∷ 1 ∷ []) reads record { answer = told Done; queue = pack (connOf 1 ∷ connOf 3 ∷ []) 2 true })
-    ∷ (built 2 (1 ∷ 1 ∷ 1 ∷ 1 ∷ []) reads record { answer = told Done; queue = pack (connOf 1 ∷ connOf 2 ∷ []) 2 false })
-    ∷ (built 2 (0 ∷ 0 ∷ 0 ∷ 1 ∷ []) reads record { answer = told Done; queue = pack [] 2 true })
-    ∷ (built 0 (1 ∷ 0 ∷ 1 ∷ 1 ∷ []) reads record { answer = told BadRecord; queue = pack [] 0 true })
-    ∷ (built 513 (1 ∷ 0 ∷ 1 ∷ 1 ∷ []) reads record { answer = told BadRecord; queue = pack [] 0 true })
-    ∷ []
-
 -- what is answered with a queue; answer 1 with an empty, synced one of limit 0
 abbrev gives : MuxerRxQ → QueuedLeft MuxerRxQ
 gives queue = record { answer = told Done; queue = queue }
 
 abbrev refused : QueuedLeft MuxerRxQ
 refused = record { answer = told BadRecord; queue = pack [] 0 true }
+
+-- Q = 2: two slots pending, and three: the first two, and unsynced; none pending; limits 0 and 513
+unfoldable pub builds : List Reading
+builds =
+    (built 2 (1 ∷ 0 ∷ 1 ∷ 1 ∷ []) reads gives (pack (connOf 1 ∷ connOf 3 ∷ []) 2 true))
+    ∷ (built 2 (1 ∷ 1 ∷ 1 ∷ 1 ∷ []) reads gives (pack (connOf 1 ∷ connOf 2 ∷ []) 2 false))
+    ∷ (built 2 (0 ∷ 0 ∷ 0 ∷ 1 ∷ []) reads gives (pack [] 2 true))
+    ∷ (built 0 (1 ∷ 0 ∷ 1 ∷ 1 ∷ []) reads refused)
+    ∷ (built 513 (1 ∷ 0 ∷ 1 ∷ 1 ∷ []) reads refused)
+    ∷ []
 
 -- Q, as 2026-10 has it: over the 256 of before, the most, and one more
 unfoldable pub readingQ : List Reading
@@ -82,8 +83,8 @@ wide limit slots =
     buildOf
     (record {
       limit = limit;
-      ports = replicate (slots - 2) 0 ++ (slot 1 ∷ slot 2 ∷ []);
-      used = replicate (slots - 2) 0 ++ (1 ∷ 1 ∷ []);
+      ports = lastTwo slots (slot 1) (slot 2);
+      used = lastTwo slots 1 1;
       pending = replicate slots 1;
     })
 
