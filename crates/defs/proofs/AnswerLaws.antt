@@ -1,26 +1,20 @@
 -- Laws of answers: what is done, what is not, and that `told` tells them apart. Assumes nothing.
-use Rattle.std.proofs.Common.{◌≡◌, ℕ, Bool, true, false, eqb, List, [], ◌∷◌, sym, refl, ap, ◌∙◌, subst, ⊎_elim, arith, eq-eqb}
-use denote.Enum.Declared.{tag_of}
-use types.Run.{OneOf, miss}
+use Rattle.std.proofs.Common.{◌≡◌, Bool, true, false, eqb, sym, refl, ap, ◌∙◌, subst, ⊎_elim, arith, eq-eqb}
 use Rattle.defs.specs.Choice.{when}
 use Rattle.defs.specs.Answer.{Told, told, is_done, when_done}
 use Rattle.defs.specs.declared.answer.Answer.{Answer}
 use Rattle.defs.specs.declared.answer.Answer.TheVariants.{Done, BadRecord, BadHeader, BadClock, BadLength, BadAnswer, NoRoom, NoData, PktBufMissing, TxBufFull, StreamBlocked, StreamFailed, NotQueued}
-use Rattle.defs.specs.contracts.answer.Answer.{the_type}
 use Rattle.defs.specs.Promises.{Refuses}
 use Rattle.defs.proofs.Basics.{never, true_or_false}
 use Rattle.defs.proofs.ChoiceLaws.{when_true, when_false, when_holds}
 
--- what the code knows past a `let Answer::Done = a else`: one of the other cases
-abbrev other_keys : List ℕ
-other_keys = 1 ∷ 2 ∷ 3 ∷ 4 ∷ 5 ∷ 6 ∷ 7 ∷ 8 ∷ 9 ∷ 10 ∷ 11 ∷ 12 ∷ []
-
+-- what the code knows past a `let Answer::Done = a else`
 abbrev pub NotDone : Answer → Type 0
-NotDone a = OneOf other_keys (tag_of the_type a)
+NotDone a = a ≡ Done → ⊥
 
 pub not_done : (a : Answer) → NotDone a → is_done a ≡ false
 unfolding is_done
-not_done Done k = absurd (miss other_keys 0 tt k)
+not_done Done k = absurd (k refl)
 not_done BadRecord k = refl
 not_done BadHeader k = refl
 not_done BadClock k = refl

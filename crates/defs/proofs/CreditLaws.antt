@@ -1,5 +1,5 @@
 -- The credit formula and the threshold rule, over true counts; and the two sides of credit. Assumes nothing.
-use Rattle.std.proofs.Common.{◌≡◌, ℕ, ◌-◌, ◌%◌, ◌^◌, ◌<◌, ◌≤◌, true, ltb, leb, arith, ltb-true, lt-ltb, le-leb, leb-true}
+use Rattle.std.proofs.Common.{◌≡◌, ℕ, ◌-◌, ◌%◌, ◌^◌, ◌<◌, ◌≤◌, true, ltb, arith, ltb-true, lt-ltb, le-leb, leb-true}
 use borrow.Author.Tests.{lt-leb}
 use Rattle.defs.specs.Wrapping.{wsub}
 use Rattle.defs.specs.Credit.{peer_avail_credit, peer_needs_credit_update}

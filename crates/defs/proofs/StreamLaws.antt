@@ -1,7 +1,5 @@
 -- Laws of the stream's answers: what each means, and what is known past a `let StreamAnswer::Count(n) = a else`. Assumes nothing.
-use Rattle.std.proofs.Common.{◌≡◌, ℕ, ◌<◌, Bool, true, false, eqb, ◌⊎◌, List, [], ◌∷◌, sym, refl, ap, ◌∙◌, inl, inr, ⊎_elim, arith, eq-eqb, eqb-true}
-use denote.Enum.Declared.{tag_of}
-use types.Run.{OneOf, miss}
+use Rattle.std.proofs.Common.{◌≡◌, ℕ, ◌<◌, Bool, true, false, eqb, ◌⊎◌, sym, refl, ap, ◌∙◌, inl, inr, ⊎_elim, arith, eq-eqb, eqb-true}
 use Rattle.defs.specs.Answer.{told, is_done}
 use Rattle.defs.specs.Stream.{counted, failed, stops, stopped_by, read_counted, read_blocks}
 use Rattle.defs.specs.Promises.{Exactly, StreamMeans}
@@ -11,8 +9,6 @@ use Rattle.defs.specs.declared.stream.ReadAnswer.{ReadAnswer}
 use Rattle.defs.specs.declared.stream.ReadAnswer.TheVariants.{Count as ReadCount, WouldBlock as ReadWouldBlock, Failed as ReadFailed}
 use Rattle.defs.proofs.Basics.{never}
 use Rattle.defs.proofs.MeansLaws.{in_words}
-use Rattle.defs.specs.contracts.stream.StreamAnswer.{the_type}
-use Rattle.defs.specs.contracts.stream.ReadAnswer.{the_type as read-type}
 
 -- ---- what each answer means
 
@@ -70,21 +66,18 @@ stream_means = record {
 
 -- ---- past a `let .. else`
 
-abbrev other_keys : List ℕ
-other_keys = 1 ∷ 2 ∷ []
-
 -- a would-block or a failure
 abbrev pub NotCount : StreamAnswer → Type 0
-NotCount a = OneOf other_keys (tag_of the_type a)
+NotCount a = (n : ℕ) → a ≡ Count n → ⊥
 
 pub takes_none : (a : StreamAnswer) → NotCount a → counted a ≡ 0
-takes_none (Count n) k = absurd (miss other_keys 0 tt k)
+takes_none (Count n) k = absurd (k n refl)
 takes_none WouldBlock k = refl
 takes_none Failed k = refl
 
 pub not_count_stops : (a : StreamAnswer) → NotCount a → is_done (stopped_by a) ≡ false
 unfolding is_done
-not_count_stops (Count n) k = absurd (miss other_keys 0 tt k)
+not_count_stops (Count n) k = absurd (k n refl)
 not_count_stops WouldBlock k = refl
 not_count_stops Failed k = refl
 
@@ -97,9 +90,9 @@ stopped_takes_none Failed e = refl
 
 -- the same of the answer to a read
 abbrev pub NotRead : ReadAnswer → Type 0
-NotRead a = OneOf other_keys (tag_of read-type a)
+NotRead a = (n : ℕ) → a ≡ ReadCount n → ⊥
 
 pub reads_none : (a : ReadAnswer) → NotRead a → read_counted a ≡ 0
-reads_none (ReadCount n) k = absurd (miss other_keys 0 tt k)
+reads_none (ReadCount n) k = absurd (k n refl)
 reads_none ReadWouldBlock k = refl
 reads_none ReadFailed k = refl

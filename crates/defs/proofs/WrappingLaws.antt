@@ -1,5 +1,5 @@
 -- Laws of 32-bit wrapping sums and differences, modulo 2^32 and modulo a ring's size. Assumes nothing.
-use Rattle.std.proofs.Common.{◌≡◌, ℕ, ◌+◌, ◌-◌, ◌%◌, ◌^◌, ◌<◌, true, sym, refl, ap, ◌∙◌, arith}
+use Rattle.std.proofs.Common.{◌≡◌, ℕ, ◌+◌, ◌%◌, ◌^◌, ◌<◌, true, sym, refl, ap, ◌∙◌, arith}
 use Prim.Native.Nat.{◌∣◌}
 use native.Mathlib.Nat.{dvd_trans, dvd_of_mod-eq-zero, mod-eq-zero_of_dvd, mod-mod_of_dvd}
 use Rattle.defs.specs.Limits.{max_ring, is_ring_size}

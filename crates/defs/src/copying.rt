@@ -13,7 +13,8 @@ pub fn copy(dst: &mut [u8], src: &[u8])
     copy_whole(&mut dst[..n], &src[..n]);
 }
 
-// The same under a C name: what scripts/leaf-check takes apart and scripts/lend-rings calls.
+// The same under a C name, by which `defs_c` exports it: what scripts/leaf-check takes apart and
+// scripts/lend-rings calls.
 #[unsafe(no_mangle)]
 pub extern "C" fn vsock_copy(dst: &mut [u8], src: &[u8])
     ensures { dst.new ≡ copied dst.old src.now }

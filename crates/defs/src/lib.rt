@@ -1,5 +1,7 @@
 // What every call shares: answers, the stream's answers, limits, the refusal ladder, what a look
 // comes back with, 32-bit wrapping arithmetic, credit, and the one function that copies bytes.
+#![tactic(auto)]
+
 mod answer;
 mod copying;
 mod credit;
@@ -10,7 +12,7 @@ mod stream;
 mod wrapping;
 
 pub use answer::{Answer, number_of};
-pub use copying::{copy, smaller};
+pub use copying::{copy, smaller, vsock_copy};
 pub use credit::{peer_avail_credit, peer_needs_credit_update};
 pub use ladder::{clock_answer, door, late, lowest, record_answer};
 pub use look::{Flag, Len, flag_of, len_of};

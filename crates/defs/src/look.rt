@@ -5,13 +5,13 @@ ghost use Rattle.defs.specs.Look.{FlagLeft, FlagSays, LenLeft, LenSays};
 
 use crate::answer::Answer;
 
-#[derive(Drop)]
+#[derive(Clone, Copy)]
 pub struct Flag {
     pub answer: Answer,
     pub holds: bool,
 }
 
-#[derive(Drop)]
+#[derive(Clone, Copy)]
 pub struct Len {
     pub answer: Answer,
     pub len: usize,

@@ -5,7 +5,7 @@ ghost use Rattle.defs.specs.Stream.{failed, stopped_by};
 
 use crate::answer::Answer;
 
-#[derive(Drop)]
+#[derive(Clone, Copy)]
 pub enum StreamAnswer {
     Count(usize),
     WouldBlock,
@@ -13,7 +13,7 @@ pub enum StreamAnswer {
 }
 
 // The same of a read; the bytes that it counts are lent beside it.
-#[derive(Drop)]
+#[derive(Clone, Copy)]
 pub enum ReadAnswer {
     Count(usize),
     WouldBlock,
@@ -22,7 +22,7 @@ pub enum ReadAnswer {
 
 // The two answers that a writing call takes: the second is reached only where the first piece was
 // taken whole.
-#[derive(Drop)]
+#[derive(Clone, Copy)]
 pub struct StreamAnswers {
     pub first: StreamAnswer,
     pub second: StreamAnswer,
