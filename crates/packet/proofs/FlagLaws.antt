@@ -7,7 +7,7 @@ use lib.Bits.{bit_or, or_step, or_shr}
 use Rattle.defs.specs.Promises.{Exactly}
 use Rattle.defs.proofs.Basics.{lt_or_ge}
 use Rattle.packet.specs.Header.{flagged}
-use Rattle.packet.specs.Promises.{bit, FlagAdds, EveryFlagAdds}
+use Rattle.packet.specs.Promises.{bit, EveryFlagAdds}
 
 lowest : (a b : ℕ) → bit_or a b % 2 ≡ max (a % 2) (b % 2)
 lowest a b = ap (λ (n : ℕ). n % 2) (or_step a b) ∙ omega arith

@@ -8,7 +8,7 @@ use crate::le::{get_u16, get_u32, get_u64, put_u16, put_u32, put_u64};
 use defs::Answer;
 
 // The fields in the order of the standard's struct.
-#[derive(Drop)]
+#[derive(Clone, Copy)]
 pub struct VsockPacketHdr {
     pub src_cid: u64,
     pub dst_cid: u64,
@@ -34,7 +34,7 @@ impl VsockPacketHdr {
     }
 }
 
-#[derive(Drop)]
+#[derive(Clone, Copy)]
 pub enum Decoded {
     Header(VsockPacketHdr),
     BadHeader,

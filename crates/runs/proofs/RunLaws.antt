@@ -1,5 +1,5 @@
 -- Each induction over runs, once for any machine. Assumes nothing.
-use Prim.Native.Nat.{ℕ, suc, ◌+◌, ◌-◌, ◌%◌, ◌^◌, ◌≤◌}
+use Prim.Native.Nat.{ℕ, suc, ◌+◌, ◌%◌, ◌^◌, ◌≤◌}
 use mathlib.Core.Path.{◌≡◌, refl, sym, ap, ◌∙◌}
 use mathlib.Core.Bool.{Bool, true, false}
 use mathlib.Core.List.{List, [], ◌∷◌, ◌++◌, append-nil, append_assoc}
@@ -13,7 +13,7 @@ use Rattle.runs.specs.Promises.{Keeps, Moves, Begins, Wanes, EveryRunKeeps, Ever
 -- ---- what every call keeps
 
 module _ (m : Machine) (P : m.Record → Type 0) (keeps : Keeps m P) where
-  pub kept_on : {c d : m.Record} {x y : m.Lent} {t : List m.Event} → P c → Steps m c x t d y → P d
+  pub kept_on : {c : m.Record} {x : m.Lent} {d : m.Record} {y : m.Lent} {t : List m.Event} → P c → Steps m c x t d y → P d
   kept_on p none = p
   kept_on p (then {t} {d} {y} r e made) = keeps d y e (kept_on p r) made
 
@@ -69,7 +69,7 @@ unfolding outs
 outs_no is_out e t x = when_false _ _ _ x
 
 module _ (m : Machine) (P : m.Record → Type 0) (backlog : m.Record → ℕ) (Pushless : m.Event → Type 0) (is_out : m.Event → Bool) (keeps : Keeps m P) (w : Wanes m P backlog Pushless is_out) where
-  drain : {c d : m.Record} {x y : m.Lent} {t : List m.Event} → P c → Steps m c x t d y → Each Pushless t → (n : ℕ) → backlog c ≤ outs is_out t + n → backlog d ≤ n
+  drain : {c : m.Record} {x : m.Lent} {d : m.Record} {y : m.Lent} {t : List m.Event} → P c → Steps m c x t d y → Each Pushless t → (n : ℕ) → backlog c ≤ outs is_out t + n → backlog d ≤ n
   unfolding Each
   drain p none q n b = omega (arith, outs_none is_out)
   drain {c} p (then {t} {d} {y} r e made) q n b = go (is_out e) refl (λ l. drain p r q.1 n l) (λ l. drain p r q.1 (suc n) l)
