@@ -6,8 +6,6 @@ use mathlib.Core.Bool.{Bool, true, false, not, ◌&&◌, ◌||◌}
 use mathlib.Core.List.{List, [], ◌∷◌, ◌++◌, append_assoc, append-nil}
 use native.Mathlib.Omega.{arith}
 use native.Mathlib.Nat.{mod-lt, mod-eq_of_lt, mod-add-mod, add-zero}
-use denote.Enum.Declared.{tag_of}
-use types.Run.{OneOf, miss}
 use lib.Dec.{ltb, eqb}
 use lib.ListN.{length, take, drop, length-take, length-drop, length-append, take-append-drop, drop_of_length-le}
 use lib.Seq.{take_all, take-take, take-add, drop-drop, drop_at, length-take-le}
@@ -23,7 +21,6 @@ use Rattle.defs.specs.declared.answer.Answer.{Answer}
 use Rattle.defs.specs.declared.answer.Answer.TheVariants.{Done, BadRecord, BadHeader, BadClock, BadLength, BadAnswer, NoRoom, NoData, PktBufMissing, TxBufFull, StreamBlocked, StreamFailed, NotQueued}
 use Rattle.defs.specs.declared.stream.StreamAnswer.{StreamAnswer}
 use Rattle.defs.specs.declared.stream.StreamAnswer.TheVariants.{Count, WouldBlock, Failed}
-use Rattle.defs.specs.contracts.answer.Answer.{the_type}
 use Rattle.defs.proofs.StreamLaws.{NotCount, takes_none, not_count_stops, stopped_takes_none}
 use Rattle.defs.proofs.Basics.{never, lt_or_ge, true_or_false, neither, and_false}
 use Rattle.defs.proofs.ChoiceLaws.{when_true, when_false, when_same}
@@ -296,10 +293,6 @@ no_room room n e =
 
 -- ---- `finish`, as the code has it
 
--- the answers of a rest that do not refuse the whole
-abbrev unjudged : List ℕ
-unjudged = 0 ∷ 1 ∷ 2 ∷ 3 ∷ 4 ∷ 7 ∷ 8 ∷ 9 ∷ 10 ∷ 11 ∷ 12 ∷ []
-
 module _ (rest : Answer) (bytes room : ℕ) (a : Answer) where
   pub finish_over : rest ≡ BadAnswer → a ≡ late_of true (ltb room bytes) → a ≡ finish_answer (told rest).number bytes room
   unfolding finish_answer
@@ -309,24 +302,25 @@ module _ (rest : Answer) (bytes room : ℕ) (a : Answer) where
   unfolding finish_answer
   finish_short d e = e ∙ ap (λ (x : Answer). finish_answer (told x).number bytes room) (sym d)
 
-  pub finish_other : OneOf unjudged (tag_of the_type rest) → a ≡ late_of false (ltb room bytes) → a ≡ finish_answer (told rest).number bytes room
+  -- the other answers of a rest do not refuse the whole
+  pub finish_other : (rest ≡ BadAnswer → ⊥) → (rest ≡ NoRoom → ⊥) → a ≡ late_of false (ltb room bytes) → a ≡ finish_answer (told rest).number bytes room
   unfolding finish_answer
-  finish_other k e = e ∙ by rest k
+  finish_other k l e = e ∙ by rest k l
     where
-      by : (x : Answer) → OneOf unjudged (tag_of the_type x) → late_of false (ltb room bytes) ≡ finish_answer (told x).number bytes room
-      by Done k = refl
-      by BadRecord k = refl
-      by BadHeader k = refl
-      by BadClock k = refl
-      by BadLength k = refl
-      by BadAnswer k = absurd (miss unjudged 5 tt k)
-      by NoRoom k = absurd (miss unjudged 6 tt k)
-      by NoData k = refl
-      by PktBufMissing k = refl
-      by TxBufFull k = refl
-      by StreamBlocked k = refl
-      by StreamFailed k = refl
-      by NotQueued k = refl
+      by : (x : Answer) → (x ≡ BadAnswer → ⊥) → (x ≡ NoRoom → ⊥) → late_of false (ltb room bytes) ≡ finish_answer (told x).number bytes room
+      by Done k l = refl
+      by BadRecord k l = refl
+      by BadHeader k l = refl
+      by BadClock k l = refl
+      by BadLength k l = refl
+      by BadAnswer k l = absurd (k refl)
+      by NoRoom k l = absurd (l refl)
+      by NoData k l = refl
+      by PktBufMissing k l = refl
+      by TxBufFull k l = refl
+      by StreamBlocked k l = refl
+      by StreamFailed k l = refl
+      by NotQueued k l = refl
 
 pub finish_kept : (b : TxBuf) (piece out : List ℕ) (number count : ℕ) (a : Answer) (r : Flushed)
     → a ≡ finish_answer number (length piece) (length out) → NotDone a → r ≡ record { answer = a; count = 0; ring = b }

@@ -84,7 +84,9 @@ unfolding held_from
 held_other R zero k st t x l = refl
 held_other R (suc n) k st t x l =
     let e : t + (suc n + k) ≡ suc t + (n + k) = omega arith in
-    rw (get_or-set_other st ((t + (suc n + k)) % R) (t % R) x 0 (apart R t (suc n + k) (omega arith) l), e, held_other R n k st (suc t) x (omega arith))
+    let rest : held_from (set st ((t + (suc n + k)) % R) x) R (suc t) n ≡ held_from st R (suc t) n =
+    ap (λ (i : ℕ). held_from (set st (i % R) x) R (suc t) n) e ∙ held_other R n k st (suc t) x (omega arith) in
+    rw (get_or-set_other st ((t + (suc n + k)) % R) (t % R) x 0 (apart R t (suc n + k) (omega arith) l)) (ap (λ (m : List ℕ). get_or st (t % R) 0 ∷ m) rest)
 
 -- what is held after a write at the head is what was held, and then the source
 pub held_write : (R : ℕ) (src st : List ℕ) (t n : ℕ) → n + length src ≤ R → length st ≡ R

@@ -7,7 +7,7 @@ ghost use Rattle.txbuf.specs.Flush.{first_piece, second_piece, advanced, finish_
 use crate::record::TxBuf;
 use defs::{Answer, StreamAnswer, StreamAnswers};
 
-#[derive(Drop)]
+#[derive(Clone, Copy)]
 pub struct Flushed {
     pub answer: Answer,
     pub count: usize,

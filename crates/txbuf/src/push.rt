@@ -6,7 +6,7 @@ ghost use Rattle.txbuf.specs.Push.{push_answer, runs, PushIn, PushLeft, PushSays
 use crate::record::TxBuf;
 use defs::{Answer, limits};
 
-#[derive(Drop)]
+#[derive(Clone, Copy)]
 pub struct Pushed {
     pub answer: Answer,
     pub ring: TxBuf,
@@ -35,8 +35,8 @@ impl TxBuf {
     }
 }
 
-// The same under a C name, by 01's number: what scripts/leaf-check takes apart and scripts/lend-rings
-// calls.
+// The same under a C name, by 01's number, by which `txbuf_c` exports it: what scripts/leaf-check
+// takes apart and scripts/lend-rings calls.
 #[unsafe(no_mangle)]
 pub extern "C" fn vsock_ring_push(ring: TxBuf, storage: &mut [u8], src: &[u8]) -> u8
     ensures { NumberedSays (record { ring = ring; store = storage.old; src = src.now }) (record { number = result; store = storage.new }) }

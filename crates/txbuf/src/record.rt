@@ -8,14 +8,14 @@ use defs::{Answer, Flag, Len, limits};
 
 // Offsets into the storage are head and tail modulo the size; both only rise, and wrap at 2^32.
 #[repr(C)]
-#[derive(Drop)]
+#[derive(Clone, Copy)]
 pub struct TxBuf {
     pub size: u32,
     pub head: u32,
     pub tail: u32,
 }
 
-#[derive(Drop)]
+#[derive(Clone, Copy)]
 pub struct Opened {
     pub answer: Answer,
     pub ring: TxBuf,
