@@ -1,7 +1,6 @@
 -- Every public call is pinned by its own contract, which only proofs/ can name (`Learnt`: what a caller learns of it). Assumes nothing.
 use mathlib.Core.Bool.{Bool}
 use Rattle.defs.specs.Pinned.{Pinned}
-use Rattle.csm.specs.State.{polls, takes, asks}
 use Rattle.csm.specs.declared.pending.PendingRxSet.{PendingRxSet}
 use Rattle.csm.specs.declared.row.Row.{Row}
 use Rattle.csm.specs.declared.state.ConnState.{ConnState}

@@ -11,9 +11,9 @@ use Rattle.csm.specs.declared.turn.RxStep.TheVariants.{Rst, Response, Request, O
 
 -- a positive count is data, 0 closes, a would-block falls through, a failure fails
 abbrev pub read_step : ReadAnswer → RxStep → RxStep
-read_step (Count n) update = when (eqb n 0) Close (Data n)
-read_step WouldBlock update = update
-read_step Failed update = Fail
+read_step (Count n) else = when (eqb n 0) Close (Data n)
+read_step WouldBlock else = else
+read_step Failed else = Fail
 
 -- Rw out of state: RST; then credit 0: CREDIT_REQUEST; then the buffer is needed
 abbrev pub data_step : Bool → Bool → Bool → RxStep → RxStep

@@ -1,6 +1,8 @@
 // The state machine of a connection (csm/mod.rs, and the rules of csm/connection.rs that need no
 // record), as tables: what a state allows, what is pending, what a turn to speak says, and what that
 // leaves of state, indications and timer. No byte is touched here.
+#![tactic(auto)]
+
 mod pending;
 mod row;
 mod state;

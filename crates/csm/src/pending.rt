@@ -2,7 +2,7 @@
 ghost use Rattle.std.specs.Prelude.{◌≡◌};
 ghost use Rattle.csm.specs.Pending.{is_pending, marked, left_of};
 
-#[derive(Drop)]
+#[derive(Clone, Copy)]
 pub struct PendingRxSet {
     pub request: bool,
     pub response: bool,

@@ -9,7 +9,7 @@ use defs::Answer;
 use packet::uapi;
 
 // What becomes of the state.
-#[derive(Drop)]
+#[derive(Clone, Copy)]
 pub enum After {
     Same,
     Opens,
@@ -17,7 +17,7 @@ pub enum After {
 }
 
 // What becomes of the timer.
-#[derive(Drop)]
+#[derive(Clone, Copy)]
 pub enum Arms {
     Keep,
     // The guest has the request's time to answer.
@@ -28,7 +28,7 @@ pub enum Arms {
 
 // A step's answer, the header's op, flags and len, whether our fwd_cnt counts as told
 // to the guest with it, whether a pending update ends with it, and what becomes of state and timer.
-#[derive(Drop)]
+#[derive(Clone, Copy)]
 pub struct Row {
     pub answer: Answer,
     pub op: u16,

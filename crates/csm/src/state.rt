@@ -4,7 +4,7 @@ ghost use Rattle.csm.specs.State.{polls, gives, takes, asks, is_local_init, recv
 
 use packet::uapi;
 
-#[derive(Drop)]
+#[derive(Clone, Copy)]
 pub enum ConnState {
     // Opened by the host, and not confirmed by the guest yet.
     LocalInit,

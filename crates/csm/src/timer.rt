@@ -4,7 +4,7 @@ ghost use Rattle.csm.specs.Timer.{is_after, is_due, is_set, shut_arms};
 
 use crate::state::{ConnState, both_off};
 
-#[derive(Drop)]
+#[derive(Clone, Copy)]
 pub enum Timer {
     Unset,
     At(u64),

@@ -7,7 +7,7 @@ use crate::pending::PendingRxSet;
 use crate::state::{ConnState, gives};
 use defs::ReadAnswer;
 
-#[derive(Drop)]
+#[derive(Clone, Copy)]
 pub enum RxStep {
     Rst,
     Response,

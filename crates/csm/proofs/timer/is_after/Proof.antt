@@ -1,9 +1,0 @@
-use borrow.Author.Rules.{rules}
-use Rattle.csm.proofs.timer.is_after.Statement.{statement}
-use Rattle.csm.proofs.timer.is_after.Tie as tie
-
-returns_2 : tie.Need-returns-2
-returns_2 c = rw c.before.expiry.given.1
-
-pub is_after_spec : {M : Type 1} → statement M
-is_after_spec = tie.close (tie.spec (λ c. search rules) (λ c. search rules) (λ c. search rules) returns_2)
