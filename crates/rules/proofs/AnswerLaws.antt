@@ -30,7 +30,6 @@ use Rattle.txbuf.specs.Record.{used_of}
 use Rattle.txbuf.specs.Flush.{ends_by, flush_answer, flush_count, flush_over}
 use Rattle.txbuf.specs.Means.{counted_now}
 use Rattle.txbuf.proofs.AnswerLaws.{count_is, over_is, too_much, too_much_means}
-use Rattle.csm.specs.State.{takes}
 use Rattle.csm.specs.Said.{Reads}
 use Rattle.csm.proofs.Promises.{every_state_means}
 use Rattle.csm.proofs.FirstLaws.{reads_means, nothing_means, buffer_means}

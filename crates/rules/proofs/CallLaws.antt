@@ -29,7 +29,7 @@ use Rattle.packet.specs.Uapi.{op_response, op_shutdown, op_rw, op_credit_request
 use Rattle.packet.specs.declared.hdr.VsockPacketHdr.{VsockPacketHdr}
 use Rattle.txbuf.specs.Record.{used_of}
 use Rattle.txbuf.specs.declared.record.TxBuf.{TxBuf}
-use Rattle.csm.specs.State.{polls, takes, is_local_init, both_off}
+use Rattle.csm.specs.State.{is_local_init, both_off}
 use Rattle.csm.specs.Pending.{none, is_pending, marked}
 use Rattle.csm.specs.declared.pending.PendingRxSet.{PendingRxSet}
 use Rattle.csm.specs.Row.{row_of}

@@ -134,7 +134,7 @@ unreached_is_ignored = record {
       ∙ left_alike _ _ _ (recv_done i) (recv_done (read_with i a bytes)) (λ (x : Answer). record { answer = told x; conn = i.conn; hdr = i.hdr; buf = i.buf }) d
       (lowest_refused _ _ d) (lowest_refused _ _ d)
       ∙ sym said;
-  notify_door_lem = λ i a t o other says said door n.
+  notify_door = λ i a t o other says said door n.
       let d = shut (notify_door i.conn (length i.store)) t door n in
       says
       ∙ left_alike _ _ _ (notify_done i) (notify_done (notified_with i a)) (λ (x : Answer). record { answer = told x; conn = i.conn; out = i.out }) d

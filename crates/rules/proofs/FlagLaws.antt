@@ -19,7 +19,7 @@ use Rattle.txbuf.specs.declared.record.TxBuf.{TxBuf}
 use Rattle.csm.specs.State.{gives, is_local_init, shut_by, both_off, recv_off, send_off, Grown, grown, closed, dead}
 use Rattle.csm.specs.Row.{afterwards}
 use Rattle.csm.specs.declared.row.After.{After}
-use Rattle.csm.specs.declared.row.After.TheVariants.{Same, Closes}
+use Rattle.csm.specs.declared.row.After.TheVariants.{Same, Opens as Opened, Closes}
 use Rattle.csm.specs.declared.pending.PendingRxSet.{PendingRxSet}
 use Rattle.csm.specs.declared.state.ConnState.{ConnState}
 use Rattle.csm.specs.declared.state.ConnState.TheVariants.{LocalInit, PeerInit, Established, LocalClosed, PeerClosed, Killed}
@@ -168,10 +168,12 @@ is_peer_init Killed = false
 -- where a turn does not open
 unopened : (x : After) (s d : ConnState) (r q : Bool) → NotOpening (gives s) x → d ≡ afterwards x s → s ≡ PeerClosed r q → Grown r q d
 unopened Same s d r q same_state e f = grows r q s d (subst (Follows s) (sym e) stays) f
+unopened Opened s d r q h e f = elim h [ ]
 unopened Closes s d r q (closes_state g) e f = subst (Grown r q) (sym e) closed
 
 unclosed : (x : After) (s d : ConnState) → NotOpening (gives s) x → d ≡ afterwards x s → s ≡ Killed → d ≡ Killed
 unclosed Same s d same_state e f = e ∙ f
+unclosed Opened s d h e f = elim h [ ]
 unclosed Closes s d (closes_state g) e f = absurd (never (sym (ap gives f) ∙ g))
 
 by_turn : (c d : VsockConnection) (x : After) (rst : Bool) → d.state ≡ afterwards x c.state → d.pending_rx.response ≡ c.pending_rx.response && rst

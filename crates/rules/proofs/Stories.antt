@@ -29,7 +29,7 @@ use Rattle.rules.specs.Notify.{seen_of, absorbed, settled_of, drained_of, notify
 use Rattle.rules.specs.Look.{kill_of}
 use Rattle.rules.specs.Open.{fresh_of, open_answer, peer_init_of, local_init_of}
 use Rattle.rules.specs.Receive.{spoken_of, received_of, header_of, recv_door, recv_refusal, recv_done, recv_kept, recv_of}
-use Rattle.rules.specs.Send.{heard_of, moved_of, updated_of, on_response, on_shutdown, on_data, rule_of, goes_of, plan_of, kills_of, send_door_of, send_late, carried, send_door, send_answer, send_done, send_kept, send_of, accepted}
+use Rattle.rules.specs.Send.{heard_of, moved_of, updated_of, on_response, on_shutdown, on_data, rule_of, goes_of, plan_of, kills_of, send_door_of, send_late, carried, send_door, send_answer, send_done, send_kept, send_of}
 use Rattle.rules.specs.Runs.{Event, Start, before, after, store_after, Steps, Run, took_by, accepted_by, delivered_by, outs, Pushless}
 use Rattle.rules.specs.Stories.{start_a, a1, a2, a3, a4, a5, a6, a7, store_a, story_a, up_to_a5, end_store_a, start_b, b1, b2, b3, b4, story_b, end_store_b, c3, c4, story_c, end_store_c, d2, store_d, d3, d4, d5, draining, start_e, e1, e2, e3, e4, e5, story_e, end_store_e, ten, f6, end_store_f, f7, story_f, g2, end_store_g, story_g, h2, h3, h4, h5, h6, store_h, i2, i3, store_i, k1, k2, k3, k4, k5, k6, k7, k8, store_k6, killing, heard_ops, by_hand, turn, store_f, StaysDead, StoriesHold}
 use Rattle.rules.specs.declared.record.VsockConnection.{VsockConnection}

@@ -106,7 +106,7 @@ pub record UnreachedIsIgnored : Type 0 where
       → SendDoorSays (send_given i) t → (t.number ≡ 0 → ⊥) → o ≡ other
   pub recv_door : (i : RecvIn) (a : ReadAnswer) (bytes : List ℕ) (t : Told) (o other : RecvLeft) → RecvSays i o → RecvSays (read_with i a bytes) other
       → RecvDoorSays (recv_given i) t → (t.number ≡ 0 → ⊥) → o ≡ other
-  pub notify_door_lem : (i : NotifyIn) (a : StreamAnswers) (t : Told) (o other : NotifyLeft) → NotifySays i o → NotifySays (notified_with i a) other
+  pub notify_door : (i : NotifyIn) (a : StreamAnswers) (t : Told) (o other : NotifyLeft) → NotifySays i o → NotifySays (notified_with i a) other
       → NotifyDoorSays i.conn i.store t → (t.number ≡ 0 → ⊥) → o ≡ other
   pub raw_door : (i : RawIn) (a : StreamAnswers) (t : Told) (o other : RawLeft) → RawSays i o → RawSays (raw_with i a) other
       → RawDoorSays i.conn i.buf t → (t.number ≡ 0 → ⊥) → o ≡ other

@@ -1,5 +1,5 @@
 -- `recv_pkt` (01, section of that name): the step of the state machine, and what its row leaves of record, header and buffer. Assumes nothing.
-use Rattle.std.specs.Prelude.{ℕ, ◌+◌, ◌≤◌, min, ◌≡◌, Bool, false, not, ◌&&◌, ◌||◌, List, ◌++◌, length, take, drop, ltb}
+use Rattle.std.specs.Prelude.{ℕ, ◌≤◌, min, ◌≡◌, Bool, false, not, ◌&&◌, ◌||◌, List, ◌++◌, length, take, drop, ltb}
 use Rattle.defs.specs.Choice.{when}
 use Rattle.defs.specs.Answer.{Told, told, when_done}
 use Rattle.defs.specs.Limits.{max_packet, max_clock, max_timeout, is_header_length, is_clock, is_packet_length}

@@ -36,7 +36,7 @@ pub data Looking : Type 0 where
   send_offered : SendGiven → List ℕ → Looking
   recv_door : RecvGiven → Told → Looking
   recv_asked : RecvGiven → AskedLeft → Looking
-  notify_door_lem : VsockConnection → List ℕ → Told → Looking
+  notify_door : VsockConnection → List ℕ → Told → Looking
   notify_offered : VsockConnection → Bool → List ℕ → List ℕ → Looking
   notify_offered_next : VsockConnection → Bool → List ℕ → List ℕ → Looking
   raw_door : VsockConnection → List ℕ → Told → Looking
@@ -55,7 +55,7 @@ looked_at (send_writes g o) = g.conn
 looked_at (send_offered g o) = g.conn
 looked_at (recv_door g o) = g.conn
 looked_at (recv_asked g o) = g.conn
-looked_at (notify_door_lem c s o) = c
+looked_at (notify_door c s o) = c
 looked_at (notify_offered c w s o) = c
 looked_at (notify_offered_next c w s o) = c
 looked_at (raw_door c b o) = c
@@ -74,7 +74,7 @@ LookSays (send_writes g o) = SendWritesSays g o
 LookSays (send_offered g o) = SendOfferedSays g o
 LookSays (recv_door g o) = RecvDoorSays g o
 LookSays (recv_asked g o) = RecvAskedSays g o
-LookSays (notify_door_lem c s o) = NotifyDoorSays c s o
+LookSays (notify_door c s o) = NotifyDoorSays c s o
 LookSays (notify_offered c w s o) = NotifyOfferedSays c w s o
 LookSays (notify_offered_next c w s o) = NotifyNextSays c w s o
 LookSays (raw_door c b o) = RawDoorSays c b o

@@ -3,14 +3,14 @@ use csm::{ConnState, PendingRxSet, Timer};
 use txbuf::TxBuf;
 
 // What the port has in place of the Rust's constants, beside the ring's size.
-#[derive(Drop)]
+#[derive(Clone, Copy)]
 pub struct Settings {
     pub threshold: u32,
     pub request_timeout: u64,
     pub shutdown_timeout: u64,
 }
 
-#[derive(Drop)]
+#[derive(Clone, Copy)]
 pub struct VsockConnection {
     pub settings: Settings,
     pub state: ConnState,
