@@ -3,9 +3,7 @@ use Prim.Native.Nat.{ℕ, ◌≤◌}
 use mathlib.Core.Path.{◌≡◌, refl, sym, ap, ◌∙◌}
 use mathlib.Core.Logic.{⊎_elim}
 use mathlib.Core.Bool.{Bool, true, false, ◌&&◌}
-use mathlib.Core.List.{List, [], ◌∷◌}
-use denote.Enum.Declared.{tag_of}
-use types.Run.{OneOf, miss}
+use mathlib.Core.List.{List}
 use lib.ListN.{length}
 use native.Mathlib.Omega.{arith}
 use borrow.Author.Tests.{not-false}
@@ -16,7 +14,6 @@ use Rattle.defs.specs.Limits.{max_ring}
 use Rattle.defs.specs.Ladder.{record_answer}
 use Rattle.defs.specs.declared.answer.Answer.{Answer}
 use Rattle.defs.specs.declared.answer.Answer.TheVariants.{Done, BadRecord, BadHeader, BadClock, BadLength, BadAnswer, NoRoom, NoData, PktBufMissing, TxBufFull, StreamBlocked, StreamFailed, NotQueued}
-use Rattle.defs.specs.contracts.answer.Answer.{the_type}
 use Rattle.defs.proofs.Basics.{never, true_or_false}
 use Rattle.defs.proofs.ChoiceLaws.{when_true, when_false}
 use Rattle.defs.proofs.AnswerLaws.{NotDone, not_done, is_done_lem, when_done_lem, when_not_done}
@@ -106,24 +103,21 @@ flush_within i a b left f =
     omega arith
 
 -- what the code knows where no arm of number 10 is taken
-abbrev other_keys : List ℕ
-other_keys = 0 ∷ 1 ∷ 2 ∷ 3 ∷ 4 ∷ 5 ∷ 6 ∷ 7 ∷ 8 ∷ 9 ∷ 12 ∷ []
-
-pub not_absorbed : (a : Answer) → OneOf other_keys (tag_of the_type a) → a ≡ absorbed a
+pub not_absorbed : (a : Answer) → (a ≡ StreamBlocked → ⊥) → (a ≡ StreamFailed → ⊥) → a ≡ absorbed a
 unfolding absorbed when
-not_absorbed Done k = refl
-not_absorbed BadRecord k = refl
-not_absorbed BadHeader k = refl
-not_absorbed BadClock k = refl
-not_absorbed BadLength k = refl
-not_absorbed BadAnswer k = refl
-not_absorbed NoRoom k = refl
-not_absorbed NoData k = refl
-not_absorbed PktBufMissing k = refl
-not_absorbed TxBufFull k = refl
-not_absorbed StreamBlocked k = absurd (miss other_keys 10 tt k)
-not_absorbed StreamFailed k = absurd (miss other_keys 11 tt k)
-not_absorbed NotQueued k = refl
+not_absorbed Done k h = refl
+not_absorbed BadRecord k h = refl
+not_absorbed BadHeader k h = refl
+not_absorbed BadClock k h = refl
+not_absorbed BadLength k h = refl
+not_absorbed BadAnswer k h = refl
+not_absorbed NoRoom k h = refl
+not_absorbed NoData k h = refl
+not_absorbed PktBufMissing k h = refl
+not_absorbed TxBufFull k h = refl
+not_absorbed StreamBlocked k h = absurd (k refl)
+not_absorbed StreamFailed k h = absurd (h refl)
+not_absorbed NotQueued k h = refl
 
 absorbed_done : (a : Answer) → is_done (absorbed a) ≡ false → is_done a ≡ false
 unfolding absorbed is_done when

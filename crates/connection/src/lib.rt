@@ -6,6 +6,8 @@
 // What states, indications and turns are is in `csm`; what each call leaves is said in `rules`.
 // The record goes in by value and comes back; the ring's storage, the header and the buffers are
 // lent; the stream's answers and the clock are handed in.
+#![tactic(auto)]
+
 mod event;
 mod look;
 mod offer;

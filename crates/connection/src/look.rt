@@ -9,20 +9,20 @@ use csm::{ConnState, Timer, is_after, is_due, is_pending, polls};
 use defs::{Answer, Flag};
 use rules::VsockConnection;
 
-#[derive(Drop)]
+#[derive(Clone, Copy)]
 pub struct ExpirySeen {
     pub answer: Answer,
     pub expiry: Timer,
 }
 
-#[derive(Drop)]
+#[derive(Clone, Copy)]
 pub struct StateSeen {
     pub answer: Answer,
     pub state: ConnState,
 }
 
 // The events that the stream is to be watched for.
-#[derive(Drop)]
+#[derive(Clone, Copy)]
 pub struct EvSet {
     pub answer: Answer,
     pub readable: bool,

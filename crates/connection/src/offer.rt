@@ -14,7 +14,7 @@ use packet::Decoded;
 use rules::VsockConnection;
 
 // Whether a turn reads, and for how many bytes it asks: a read may ask for none. `answer` is of 1 to 4.
-#[derive(Drop)]
+#[derive(Clone, Copy)]
 pub struct Asked {
     pub answer: Answer,
     pub reads: bool,

@@ -7,7 +7,7 @@ use crate::record::is_sound;
 use defs::{Answer, StreamAnswer, StreamAnswers, limits};
 use rules::VsockConnection;
 
-#[derive(Drop)]
+#[derive(Clone, Copy)]
 pub struct RawSent {
     pub answer: Answer,
     pub count: usize,

@@ -8,7 +8,7 @@ use rules::{Settings, VsockConnection};
 use txbuf::TxBuf;
 
 // What a call that moves a connection comes back with.
-#[derive(Drop)]
+#[derive(Clone, Copy)]
 pub struct Outcome {
     pub answer: Answer,
     pub conn: VsockConnection,

@@ -68,7 +68,7 @@ pub fn send_pkt(
 // ---- what is decided
 
 // What a packet's data does, in numbers: all 0 where no data goes.
-#[derive(Drop)]
+#[derive(Clone, Copy)]
 struct SendPlan {
     goes: bool,
     len: usize,
