@@ -2,7 +2,7 @@
 ghost use Rattle.std.specs.Prelude.{◌≡◌};
 ghost use Rattle.conn_map.specs.Key.{key_of};
 
-#[derive(Drop)]
+#[derive(Clone, Copy)]
 pub struct ConnMapKey {
     pub local_port: u32,
     pub peer_port: u32,

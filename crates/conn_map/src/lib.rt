@@ -1,5 +1,7 @@
 // The connection table as the queues see it (muxer_impl.rs, `HashMap<ConnMapKey, VsockConnection>`):
 // lent parallel slices of numbers in slot order, so that a walk over it has one order.
+#![tactic(auto)]
+
 mod distinct;
 mod key;
 mod sort;

@@ -1,7 +1,7 @@
 -- Laws of a list's places: an append, a rewrite and a pop of the list, each as one on the places. Assumes nothing.
 use Prim.Native.Nat.{ℕ, zero, suc, ◌+◌, ◌-◌, ◌≤◌, ◌<◌}
 use mathlib.Core.Path.{◌≡◌, refl, ap, sym, ◌∙◌}
-use mathlib.Core.Bool.{Bool, true, false}
+use mathlib.Core.Bool.{Bool, true, false, ◌&&◌}
 use mathlib.Core.List.{List, [], ◌∷◌, ◌++◌, map}
 use native.Mathlib.Numerals.{add-one}
 use native.Mathlib.Nat.{not-suc-le-zero}
@@ -32,6 +32,15 @@ all_end test [] zero h = refl
 all_end test [] (suc i) h = refl
 all_end test (x ∷ l) zero h = absurd (not-suc-le-zero h)
 all_end test (x ∷ l) (suc i) h = all_end test l i (omega arith)
+
+pub all_append : {A : Type 0} (test : A → Bool) (l m : List A) → all test (l ++ m) ≡ all test l && all test m
+unfolding all
+all_append test [] m = refl
+all_append test (x ∷ l) m = rw (all_append test l m) (grouped (test x) (all test l) (all test m))
+  where
+    grouped : (x y z : Bool) → x && (y && z) ≡ (x && y) && z
+    grouped true y z = refl
+    grouped false y z = refl
 
 -- ---- places and lists: N places, zero items z past the items
 

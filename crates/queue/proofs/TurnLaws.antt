@@ -1,5 +1,5 @@
 -- Laws of a list that is turned, and of the places that are counted round the limit. Assumes nothing.
-use Prim.Native.Nat.{ℕ, zero, suc, ◌+◌, ◌-◌, ◌%◌, ◌≤◌, ◌<◌}
+use Prim.Native.Nat.{ℕ, suc, ◌+◌, ◌-◌, ◌%◌, ◌≤◌, ◌<◌}
 use mathlib.Core.Path.{◌≡◌, refl, ap, ap₂, sym, ◌∙◌}
 use mathlib.Core.Logic.{◌⊎◌, ⊎_elim, inl, inr}
 use mathlib.Core.Bool.{Bool, true, false, ◌&&◌}
@@ -12,7 +12,8 @@ use lib.Seq.{take_all, set-append_left, length-take-le, take-take, drop-drop, ta
 use Rattle.defs.proofs.Basics.{lt_or_ge}
 use Rattle.defs.proofs.ChoiceLaws.{when_true, when_false}
 use Rattle.queue.specs.Queue.{all, padded, turned, place_after, used_past, used_round}
-use Rattle.queue.proofs.PlacesLaws.{drop_all, All-append}
+use Rattle.std.proofs.lemmas.List.{drop_all}
+use Rattle.queue.proofs.PlacesLaws.{all_append}
 use Rattle.queue.specs.Promises.{PlaceAfterMeans, UsedMeans}
 
 -- ---- places counted from the front
@@ -234,11 +235,11 @@ unused_parts {A} test p front len limit m f h = ⊎_elim ahead around (lt_or_ge 
         ap (λ (n : ℕ). all test (drop n p)) (past_ahead front len limit c)
         ∙ ap (λ (l : List A). all test (drop (front + len) l)) (sym (take-append-drop limit p))
         ∙ ap (all test) (drop-append-le (front + len) (take limit p) (drop limit p) (omega (arith, length-take-le limit p m)))
-        ∙ All-append test x (drop limit p) in
+        ∙ all_append test x (drop limit p) in
         let right : all test (drop len (turned front (take limit p))) ≡ all test x && all test (take front p) =
         ap (all test) (drop-append-le len (drop front (take limit p)) (take front (take limit p)) (omega (arith, t_is)))
         ∙ ap₂ (λ (a b : List A). all test (a ++ b)) (drop-drop len front (take limit p)) firsts
-        ∙ All-append test x (take front p) in
+        ∙ all_append test x (take front p) in
         ap₂ (λ (n : ℕ) (b : Bool). all test (drop n (take front p)) && b) r left
         ∙ swapped (all test (take front p)) (all test x) (all test (drop limit p))
         ∙ ap (λ (b : Bool). b && all test (drop limit p)) (sym right)

@@ -1,5 +1,7 @@
 // What both queues are, said once over any item (specs/): the record, the list that it means, and
 // what each call leaves. Code that touches an array of items stands in each queue's own crate.
+#![tactic(auto)]
+
 ghost use Rattle.std.specs.Prelude.{◌≡◌, ◌-◌, min};
 ghost use Rattle.queue.specs.Queue.{place_after};
 ghost use Rattle.queue.specs.Queued.{has_room};
