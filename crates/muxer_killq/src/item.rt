@@ -2,7 +2,7 @@
 ghost use Rattle.std.specs.Prelude.{◌≡◌};
 ghost use Rattle.muxer_killq.specs.Item.{zero_item, is_zero, times_apart, is_alike};
 
-#[derive(Drop)]
+#[derive(Clone, Copy)]
 pub struct MuxerKillQItem {
     pub local_port: u32,
     pub peer_port: u32,

@@ -12,7 +12,7 @@ use defs::limits::MAX_KILLQ_SIZE;
 use defs::{Answer, Flag, limits};
 
 // The places from `len` on hold the zero item.
-#[derive(Drop)]
+#[derive(Clone, Copy)]
 pub struct MuxerKillQ {
     pub q: [MuxerKillQItem; MAX_KILLQ_SIZE],
     pub len: usize,
@@ -20,7 +20,7 @@ pub struct MuxerKillQ {
     pub synced: bool,
 }
 
-#[derive(Drop)]
+#[derive(Clone, Copy)]
 pub struct Queued {
     pub answer: Answer,
     pub queue: MuxerKillQ,

@@ -13,7 +13,7 @@ use conn_map::ConnMapKey;
 use defs::Answer;
 
 // `item` is the zero item where none was found.
-#[derive(Drop)]
+#[derive(Clone, Copy)]
 pub struct Peeked {
     pub answer: Answer,
     pub found: bool,
@@ -21,7 +21,7 @@ pub struct Peeked {
 }
 
 // `key` is all zero where none was found.
-#[derive(Drop)]
+#[derive(Clone, Copy)]
 pub struct Popped {
     pub answer: Answer,
     pub found: bool,

@@ -10,14 +10,14 @@ use crate::rxq::{MuxerRx, MuxerRxQ, zero_item};
 use defs::Answer;
 
 // `item` is the zero item where none was found.
-#[derive(Drop)]
+#[derive(Clone, Copy)]
 pub struct Peeked {
     pub answer: Answer,
     pub found: bool,
     pub item: MuxerRx,
 }
 
-#[derive(Drop)]
+#[derive(Clone, Copy)]
 pub struct Popped {
     pub answer: Answer,
     pub found: bool,

@@ -11,7 +11,7 @@ use defs::limits::MAX_RXQ_SIZE;
 use defs::{Answer, Flag, Len, limits};
 
 // What is queued: an RST, or a connection that has something for the guest.
-#[derive(Drop)]
+#[derive(Clone, Copy)]
 pub struct MuxerRx {
     pub rst: bool,
     pub local_port: u32,
@@ -19,7 +19,7 @@ pub struct MuxerRx {
 }
 
 // The places from `len` on hold the zero item.
-#[derive(Drop)]
+#[derive(Clone, Copy)]
 pub struct MuxerRxQ {
     pub q: [MuxerRx; MAX_RXQ_SIZE],
     pub len: usize,
@@ -27,7 +27,7 @@ pub struct MuxerRxQ {
     pub synced: bool,
 }
 
-#[derive(Drop)]
+#[derive(Clone, Copy)]
 pub struct Queued {
     pub answer: Answer,
     pub queue: MuxerRxQ,

@@ -1,0 +1,16 @@
+use mathlib.Core.Path.{◌≡◌}
+use Prim.Native.Nat.{ℕ}
+use borrow.Author.Rules.{rules}
+use lib.ListN.{length}
+use Rattle.defs.specs.Limits.{max_rxq}
+use Rattle.defs.proofs.LookLaws.{record_len_told}
+use Rattle.queue.proofs.PlacesLaws.{long}
+use Rattle.queue.proofs.LookLaws.{len_held}
+use Rattle.muxer_rxq.proofs.QueueLaws.{lawful}
+use Rattle.muxer_rxq.proofs.rxq.MuxerRxQ.len.Goals as goal
+
+pub returns : goal.returns
+returns c =
+    let q = c.args.self in
+    let n : length q.q ≡ max_rxq = search (rules, long) in
+    record_len_told _ _ _ _ _ _ c.len_of.ensures c.record_answer.ensures c.is_sound.ensures (len_held lawful q (λ (k : ℕ). k) n)
