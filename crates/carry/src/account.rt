@@ -3,7 +3,8 @@ use crate::trip::Trip;
 use crate::{arguments, trip};
 use defs::Answer;
 use defs::limits::{MAX_PKT_BUF_SIZE, MIN_RING_SIZE};
-use libc::STDERR_FILENO;
+use std::io;
+use std::rt::Runtime;
 
 // The bytes between two signs of life: 64 MiB.
 const FAR: u64 = 67108864;
@@ -11,86 +12,101 @@ const FAR: u64 = 67108864;
 // Where a 32-bit count comes round.
 const WRAP: u64 = 4294967296;
 
-fn say(words: &[u8]) {
-    io::write_all(STDERR_FILENO, words);
-}
-
-fn number(name: &[u8], n: u64) {
-    say(name);
-    io::print_decimal(STDERR_FILENO, n);
-}
-
 // What is wrong with the arguments, the first of several, and what they may be.
-pub fn objection(ring: bool, packet: bool, moods: bool, few: bool) {
+pub fn objection<R: Runtime>(
+    rt: &R,
+    ring: bool,
+    packet: bool,
+    moods: bool,
+    few: bool,
+) -> io::Result<()> {
     if !ring {
-        say(b"carry: RING is not a ring's size\n");
+        eprintln!(rt; "carry: RING is not a ring's size")?;
     } else if !packet {
-        say(b"carry: PACKET is not a packet's size\n");
+        eprintln!(rt; "carry: PACKET is not a packet's size")?;
     } else if !moods {
-        say(b"carry: MOODS is not a script of moods\n");
+        eprintln!(rt; "carry: MOODS is not a script of moods")?;
     } else if !few {
-        say(b"carry: there is an argument too many\n");
+        eprintln!(rt; "carry: there is an argument too many")?;
     }
     if !(ring & packet & moods & few) {
-        usage();
+        usage(rt)?;
     }
+    Ok(())
 }
 
-fn usage() {
-    say(b"usage: carry [RING [PACKET [MOODS]]]: ring a power of two");
-    number(b" from ", MIN_RING_SIZE as u64);
-    number(b" to ", arguments::MAX_RING as u64);
-    number(b", packet 1 to ", MAX_PKT_BUF_SIZE as u64);
-    say(b" bytes, moods of '.', 'p' and '1' to '9', not all 'p'\n");
+fn usage<R: Runtime>(rt: &R) -> io::Result<()> {
+    let least = MIN_RING_SIZE;
+    let most = arguments::MAX_RING;
+    let longest = MAX_PKT_BUF_SIZE;
+    eprint!(rt; "usage: carry [RING [PACKET [MOODS]]]: ring a power of two")?;
+    eprint!(rt; " from {least} to {most}, packet 1 to {longest}")?;
+    eprintln!(rt; " bytes, moods of '.', 'p' and '1' to '9', not all 'p'")
 }
 
-pub fn progress(before: u64, after: u64) {
+// Told while bytes are carried. What standard error does not take is let go, and the stream goes on.
+pub fn progress<R: Runtime>(rt: &R, before: u64, after: u64) {
     if before / FAR < after / FAR {
-        number(b"carry: bytes taken ", after);
-        say(b"\n");
+        let _ = eprintln!(rt; "carry: bytes taken {after}");
     }
 }
 
-pub fn account(t: Trip) {
-    let ring = t.conn.tx_buf;
-    number(b"packets ", t.packets);
-    number(b", bytes in ", t.bytes_in);
-    number(b", bytes taken ", t.taken);
-    number(b", most held ", t.most as u64);
-    number(b", held now ", ring.used() as u64);
-    number(b", credit updates ", t.updates);
-    number(b", forwarded count ", t.conn.fwd_cnt as u64);
-    if WRAP <= t.taken {
-        say(b" (bytes taken modulo 2^32)");
+// Why a stream failed, in the system's words. Let go likewise where it can't be told.
+pub fn failure<R: Runtime>(rt: &R, what: &str, error: io::Error) {
+    let _ = told(rt, what, error);
+}
+
+// The words without the number that std puts after them.
+fn told<R: Runtime>(rt: &R, what: &str, error: io::Error) -> io::Result<()> {
+    let Ok(text) = format!(in rt.alloc(); "{error}") else {
+        return eprintln!(rt; "{what}");
+    };
+    match text.as_str().split_once(" (os error ") {
+        Some((words, _)) => eprintln!(rt; "{what}: {words}"),
+        None => eprintln!(rt; "{what}: {text}"),
     }
-    say(b"\n");
-    verdict(t, ring.used());
+}
+
+pub fn account<R: Runtime>(rt: &R, t: Trip) -> io::Result<()> {
+    let packets = t.packets;
+    let bytes_in = t.bytes_in;
+    let taken = t.taken;
+    let most = t.most;
+    let held = t.conn.tx_buf.used();
+    let updates = t.updates;
+    let forwarded = t.conn.fwd_cnt;
+    eprint!(rt; "packets {packets}, bytes in {bytes_in}, bytes taken {taken}, most held {most}")?;
+    eprint!(rt; ", held now {held}, credit updates {updates}, forwarded count {forwarded}")?;
+    if WRAP <= taken {
+        eprint!(rt; " (bytes taken modulo 2^32)")?;
+    }
+    eprintln!(rt; "")?;
+    verdict(rt, t, held)
 }
 
 // What went wrong, if anything did, by 01's number and name where a call was refused.
-fn verdict(t: Trip, held: u32) {
+fn verdict<R: Runtime>(rt: &R, t: Trip, held: u32) -> io::Result<()> {
     let last = t.last;
     if trip::is_refused(last) {
         let answer = last.answer;
-        number(
-            b"carry: a call was refused with answer ",
-            defs::number_of(answer) as u64,
-        );
-        name(answer);
+        let number = defs::number_of(answer);
+        let name = name(answer);
+        eprintln!(rt; "carry: a call was refused with answer {number}{name}")?;
     }
     if (t.bytes_in != t.taken) | (held != 0) {
-        say(b"carry: the stream took what is said above, the rest did not go on\n");
+        eprintln!(rt; "carry: the stream took what is said above, the rest did not go on")?;
     }
+    Ok(())
 }
 
-fn name(answer: Answer) {
+fn name(answer: Answer) -> &'static str {
     match answer {
-        Answer::BadRecord => say(b", BadRecord\n"),
-        Answer::BadHeader => say(b", BadHeader\n"),
-        Answer::BadClock => say(b", BadClock\n"),
-        Answer::BadLength => say(b", BadLength\n"),
-        Answer::BadAnswer => say(b", BadAnswer\n"),
-        Answer::NoRoom => say(b", NoRoom\n"),
-        _ => say(b"\n"),
+        Answer::BadRecord => ", BadRecord",
+        Answer::BadHeader => ", BadHeader",
+        Answer::BadClock => ", BadClock",
+        Answer::BadLength => ", BadLength",
+        Answer::BadAnswer => ", BadAnswer",
+        Answer::NoRoom => ", NoRoom",
+        _ => "",
     }
 }

@@ -1,12 +1,14 @@
 // The guest's end: it hears what the core says, and cuts the input into packets.
 use crate::moods::{mood, next};
 use crate::trip::Trip;
-use crate::{host, trip, waiting};
+use crate::{account, host, trip, waiting};
 use connection::VsockConnection;
 use defs::limits::VSOCK_PKT_HDR_SIZE;
 use defs::{ReadAnswer, StreamAnswer, StreamAnswers, limits};
-use libc::STDIN_FILENO;
 use packet::{Decoded, VsockPacketHdr, uapi};
+use std::io;
+use std::io::Read;
+use std::rt::Runtime;
 
 pub fn listen(trip: Trip) -> Trip {
     let conn = trip.conn;
@@ -56,7 +58,8 @@ fn heard(trip: Trip, hdr: &[u8]) -> Trip {
 
 // As much of the input as packet and credit allow. Without credit the guest asks for news, once, and
 // at the end of the input it shuts down.
-pub fn bring(
+pub fn bring<R: Runtime>(
+    rt: &R,
     trip: Trip,
     packet: usize,
     moods: &[u8],
@@ -70,48 +73,61 @@ pub fn bring(
     let credit = defs::peer_avail_credit(trip.alloc, trip.sent, trip.heard);
     let n = defs::smaller(packet, credit as usize);
     if n == 0 {
-        return ask(trip, moods, storage, out);
+        return ask(rt, trip, moods, storage, out);
     }
-    let got = fill(buf, n);
-    if got < 0 {
-        return unread(trip, moods, storage, out);
+    match fill(rt, buf, n) {
+        Err(e) => unread(rt, e, trip, moods, storage, out),
+        Ok(0) => close(rt, trip, moods, storage, out),
+        Ok(got) => {
+            let data = text::front(buf, got);
+            deliver(rt, trip, uapi::VSOCK_OP_RW, 0, data, moods, storage, out)
+        }
     }
-    if got == 0 {
-        return close(trip, moods, storage, out);
-    }
-    let data = text::front(buf, io::count(got, buf));
-    deliver(trip, uapi::VSOCK_OP_RW, 0, data, moods, storage, out)
 }
 
-fn ask(trip: Trip, moods: &[u8], storage: &mut [u8], out: &mut [u8]) -> Trip {
+fn ask<R: Runtime>(rt: &R, trip: Trip, moods: &[u8], storage: &mut [u8], out: &mut [u8]) -> Trip {
     if trip.asked {
         return trip;
     }
     let op = uapi::VSOCK_OP_CREDIT_REQUEST;
-    let mut t = deliver(trip, op, 0, b"", moods, storage, out);
+    let mut t = deliver(rt, trip, op, 0, b"", moods, storage, out);
     t.asked = true;
     t
 }
 
-fn fill(buf: &mut [u8], n: usize) -> isize {
+fn fill<R: Runtime>(rt: &R, buf: &mut [u8], n: usize) -> io::Result<usize> {
     let k = text::fitting(n, buf);
-    libc::read(STDIN_FILENO, &mut buf[..k])
+    let mut input = rt.reader();
+    input.read(&mut buf[..k])
 }
 
 // Input that would block is not its end; any other failure is, and says why.
-fn unread(trip: Trip, moods: &[u8], storage: &mut [u8], out: &mut [u8]) -> Trip {
-    if waiting::would_block() {
-        return waited(trip, moods, storage, out);
+fn unread<R: Runtime>(
+    rt: &R,
+    error: io::Error,
+    trip: Trip,
+    moods: &[u8],
+    storage: &mut [u8],
+    out: &mut [u8],
+) -> Trip {
+    if waiting::would_block(error) {
+        return waited(rt, trip, moods, storage, out);
     }
-    os::fail(b"carry: the input could not be read to its end");
+    account::failure(rt, "carry: the input could not be read to its end", error);
     let mut t = trip;
     t.unread = true;
-    close(t, moods, storage, out)
+    close(rt, t, moods, storage, out)
 }
 
 // As long as bytes are held there is something to do meanwhile. Told that nothing more is to come,
 // the guest ends as at the end of the input.
-fn waited(trip: Trip, moods: &[u8], storage: &mut [u8], out: &mut [u8]) -> Trip {
+fn waited<R: Runtime>(
+    rt: &R,
+    trip: Trip,
+    moods: &[u8],
+    storage: &mut [u8],
+    out: &mut [u8],
+) -> Trip {
     let ring = trip.conn.tx_buf;
     if ring.used() != 0 {
         return trip;
@@ -119,18 +135,19 @@ fn waited(trip: Trip, moods: &[u8], storage: &mut [u8], out: &mut [u8]) -> Trip 
     if waiting::for_input() {
         return trip;
     }
-    close(trip, moods, storage, out)
+    close(rt, trip, moods, storage, out)
 }
 
-fn close(trip: Trip, moods: &[u8], storage: &mut [u8], out: &mut [u8]) -> Trip {
+fn close<R: Runtime>(rt: &R, trip: Trip, moods: &[u8], storage: &mut [u8], out: &mut [u8]) -> Trip {
     let mut t = trip;
     t.ended = true;
     let op = uapi::VSOCK_OP_SHUTDOWN;
-    deliver(t, op, 3, b"", moods, storage, out)
+    deliver(rt, t, op, 3, b"", moods, storage, out)
 }
 
 // A packet of the guest's. Where the core would write it at once, the stream is tried first.
-fn deliver(
+fn deliver<R: Runtime>(
+    rt: &R,
     trip: Trip,
     op: u16,
     flags: u32,
@@ -145,6 +162,7 @@ fn deliver(
     let before = trip.conn;
     let writes = connection::send_writes(before, &hdr, true, data, 0, storage);
     let first = tried(
+        rt,
         before,
         writes,
         &hdr,
@@ -199,7 +217,8 @@ fn past(writes: bool, at: usize, moods: usize) -> usize {
     at
 }
 
-fn tried(
+fn tried<R: Runtime>(
+    rt: &R,
     conn: VsockConnection,
     writes: bool,
     hdr: &[u8],
@@ -209,6 +228,7 @@ fn tried(
 ) -> StreamAnswer {
     if writes {
         return host::offer(
+            rt,
             connection::send_offered(conn, hdr, true, data, 0, storage),
             mood,
         );

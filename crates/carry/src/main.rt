@@ -9,6 +9,8 @@
 // Arguments: ring size, packet size, and a script of the stream's moods, a character for each
 // write that is due, over and over: `.` as it comes, `p` a pause (it blocks), 1 to 9 at most so
 // many bytes. scripts/carry starts it, and makes an exit status of what it says.
+#![tactic(auto)]
+
 mod account;
 mod arguments;
 mod guest;
@@ -19,27 +21,33 @@ mod waiting;
 
 use crate::arguments::Wishes;
 use crate::trip::Trip;
+use std::io;
+use std::rt::Runtime;
 
 // As many moods as a script has at most.
 const SCRIPT: usize = 256;
 
-fn main() {
+// The storage of the largest ring, and as much for what is read and what goes out.
+const ROOM: usize = 65536;
+
+fn main(rt: HostRuntime) -> io::Result<()> {
     let mut script = [0u8; SCRIPT];
-    let n = os::arg(3, &mut script);
-    let whole = os::errno() != libc::ENAMETOOLONG;
-    let moods = &script[..n];
-    let wishes = arguments::wished(moods, whole);
+    let (n, whole) = arguments::script(&rt, &mut script);
+    let moods = text::front(&script, n);
+    let wishes = arguments::wished(&rt, moods, whole)?;
     if wishes.good {
-        start(wishes, moods);
+        start(&rt, wishes, moods)?;
     }
+    Ok(())
 }
 
-fn start(wishes: Wishes, moods: &[u8]) {
-    let mut storage = io::large_buffer();
-    let mut buf = io::large_buffer();
-    let mut out = io::large_buffer();
+fn start<R: Runtime>(rt: &R, wishes: Wishes, moods: &[u8]) -> io::Result<()> {
+    let mut storage = [0u8; ROOM];
+    let mut buf = [0u8; ROOM];
+    let mut out = [0u8; ROOM];
     let size = wishes.size as usize;
     let done = sized(
+        rt,
         trip::opened(wishes.size),
         size,
         wishes.packet,
@@ -48,11 +56,12 @@ fn start(wishes: Wishes, moods: &[u8]) {
         &mut buf,
         &mut out,
     );
-    account::account(done);
+    account::account(rt, done)
 }
 
 // The ring's storage is just as long as the ring.
-fn sized(
+fn sized<R: Runtime>(
+    rt: &R,
     trip: Trip,
     size: usize,
     packet: usize,
@@ -62,12 +71,13 @@ fn sized(
     out: &mut [u8],
 ) -> Trip {
     let n = text::fitting(size, storage);
-    travel(trip, packet, moods, &mut storage[..n], buf, out)
+    travel(rt, trip, packet, moods, &mut storage[..n], buf, out)
 }
 
 // A proved loop has to end, and nothing says that the input does: the turns are counted down from
 // a number that no run uses up.
-fn travel(
+fn travel<R: Runtime>(
+    rt: &R,
     trip: Trip,
     packet: usize,
     moods: &[u8],
@@ -78,7 +88,7 @@ fn travel(
     let mut t = trip;
     let mut turns = u64::MAX;
     while turns > 0 && trip::goes_on(t) {
-        t = turn(t, packet, moods, storage, buf, out);
+        t = turn(rt, t, packet, moods, storage, buf, out);
         turns -= 1;
     }
     t
@@ -86,7 +96,8 @@ fn travel(
 
 // The guest hears what the core has to say, brings a packet, and the stream gets a chance to take
 // what is held.
-fn turn(
+fn turn<R: Runtime>(
+    rt: &R,
     trip: Trip,
     packet: usize,
     moods: &[u8],
@@ -95,8 +106,8 @@ fn turn(
     out: &mut [u8],
 ) -> Trip {
     let heard = guest::listen(trip);
-    let brought = guest::bring(heard, packet, moods, storage, buf, out);
-    let drained = host::drain(brought, moods, storage, out);
-    account::progress(trip.taken, drained.taken);
+    let brought = guest::bring(rt, heard, packet, moods, storage, buf, out);
+    let drained = host::drain(rt, brought, moods, storage, out);
+    account::progress(rt, trip.taken, drained.taken);
     drained
 }

@@ -15,12 +15,12 @@ pub const GUEST_PORT: u32 = 5000;
 pub const GUEST_SPACE: u32 = 65536;
 
 // An answer in a struct of its own: a field that is an enum can't be set.
-#[derive(Drop)]
+#[derive(Clone, Copy)]
 pub struct Answered {
     pub answer: Answer,
 }
 
-#[derive(Drop)]
+#[derive(Clone, Copy)]
 pub struct Trip {
     pub conn: VsockConnection,
     // The guest's end: what it has sent, and the space and the count that it last heard of.

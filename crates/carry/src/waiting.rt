@@ -1,6 +1,9 @@
 // Waiting for a stream that would block. There is no `poll` here, but what starts the program has
 // one (scripts/carry): it is asked with a letter, and answers when that stream is ready, or that it
 // is time to end.
+use std::io::ErrorKind;
+use std::thread;
+
 const ASK: i32 = 3;
 
 const ANSWER: i32 = 4;
@@ -19,17 +22,19 @@ pub fn for_output() {
 // Where nobody is there to ask, the processor goes to others first.
 fn wait(side: &[u8]) -> u8 {
     let mut answer = [0u8; 1];
-    let asked = libc::write(ASK, side);
-    if asked == 1 {
-        libc::read(ANSWER, &mut answer);
+    if io::write_all(ASK, side) {
+        io::read_full(ANSWER, &mut answer);
     } else {
-        libc::sched_yield();
+        thread::yield_now();
     }
     answer[0]
 }
 
-// The last call on a stream failed because it would have had to wait, or was interrupted.
-pub fn would_block() -> bool {
-    let error = os::errno();
-    (error == libc::EAGAIN) | (error == libc::EINTR)
+// A call on a stream failed because it would have had to wait, or was interrupted.
+pub fn would_block(error: std::io::Error) -> bool {
+    match error.kind() {
+        ErrorKind::WouldBlock => true,
+        ErrorKind::Interrupted => true,
+        _ => false,
+    }
 }

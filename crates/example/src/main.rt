@@ -1,10 +1,14 @@
 // The shortest use of a connection from another crate: the guest opens it, is confirmed, and sends
 // eight bytes to a stream that takes five of them now and three later.
+#![tactic(auto)]
+
 use connection::{Settings, VsockConnection};
 use defs::{ReadAnswer, StreamAnswer, StreamAnswers};
 use packet::{VsockPacketHdr, uapi};
+use std::io;
+use std::io::Write;
 
-fn main() {
+fn main(rt: HostRuntime) -> io::Result<()> {
     let mut storage = [0u8; 16];
     let mut now = [0u8; 5];
     let mut later = [0u8; 3];
@@ -29,10 +33,11 @@ fn main() {
     );
     let held = sent.conn;
     let flushed = connection::notify(held, false, true, &storage, takes(3), &mut later);
-    io::write_all(1, &now);
-    io::write_all(1, &later);
-    io::print_decimal(1, flushed.conn.fwd_cnt as u64);
-    io::write_all(1, b" bytes forwarded\n");
+    let count = flushed.conn.fwd_cnt;
+    let mut stdout = rt.stdout();
+    stdout.write_all(&now)?;
+    stdout.write_all(&later)?;
+    println!(rt; "{count} bytes forwarded")
 }
 
 // The first turn to speak is the RESPONSE.

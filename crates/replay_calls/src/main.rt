@@ -1,6 +1,8 @@
 // Replays calls: reads frames from standard input, makes each call on the proved code, and writes
 // a frame with the answer and everything that the call left. oracle/FRAMES.md says what stands
 // where, docs/TESTING.md who made the calls and the replies that are compared.
+#![tactic(auto)]
+
 ghost use Rattle.std.specs.Prelude.{◌≡◌, ◌+◌, length};
 ghost use Rattle.defs.specs.Limits.{max_packet};
 

@@ -2,10 +2,14 @@
 // closes both ways while the host's reader stalls past the shutdown timer. The core ends the
 // connection, and what its ring still holds is never handed on; nothing of it is lost unseen, for
 // it is counted as held.
+#![tactic(auto)]
+
 use connection::{Settings, VsockConnection};
 use defs::limits::VSOCK_PKT_HDR_SIZE;
 use defs::{ReadAnswer, StreamAnswer, StreamAnswers};
 use packet::{Decoded, VsockPacketHdr, uapi};
+use std::io;
+use std::io::Stdout;
 use text::{named, say, yes};
 
 const RING: u32 = 65536;
@@ -19,10 +23,11 @@ const CLOSED_AT: u64 = 1000;
 
 const TIMEOUT: u64 = 2000;
 
-fn main() {
-    let mut storage = io::large_buffer();
-    let data = io::large_buffer();
-    let mut out = io::large_buffer();
+fn main(rt: HostRuntime) -> io::Result<()> {
+    let mut stdout = rt.stdout();
+    let mut storage = [0u8; RING as usize];
+    let data = [0u8; RING as usize];
+    let mut out = [0u8; RING as usize];
     let conn = confirmed(opened());
     let brought = packet(
         conn,
@@ -42,29 +47,29 @@ fn main() {
         stalls(),
         &mut out,
     );
-    named(b"sent", SENT as u64);
-    named(b", taken", closed.fwd_cnt as u64);
+    named(&mut stdout, b"sent", SENT as u64)?;
+    named(&mut stdout, b", taken", closed.fwd_cnt as u64)?;
     let ring = closed.tx_buf;
-    named(b", held", ring.used() as u64);
-    say(b"\n");
+    named(&mut stdout, b", held", ring.used() as u64)?;
+    say(&mut stdout, b"\n")?;
     let waiting = connection::notify(closed, false, true, &storage, stalls(), &mut out);
-    ends(waiting.conn);
+    ends(&mut stdout, waiting.conn)
 }
 
 // The timer runs out, the host kills the connection, and the guest is reset.
-fn ends(conn: VsockConnection) {
-    say(b"expired just before the timer");
-    yes(expired(conn, CLOSED_AT + TIMEOUT - 1));
-    say(b", at it");
-    yes(expired(conn, CLOSED_AT + TIMEOUT));
-    say(b"\n");
+fn ends(stdout: &mut Stdout, conn: VsockConnection) -> io::Result<()> {
+    say(stdout, b"expired just before the timer")?;
+    yes(stdout, expired(conn, CLOSED_AT + TIMEOUT - 1))?;
+    say(stdout, b", at it")?;
+    yes(stdout, expired(conn, CLOSED_AT + TIMEOUT))?;
+    say(stdout, b"\n")?;
     let killed = connection::kill(conn);
     let mut hdr = [0u8; VSOCK_PKT_HDR_SIZE];
     let last = turn(killed.conn, &mut hdr);
     let ring = last.tx_buf;
-    named(b"the last packet says op", op_of(&hdr) as u64);
-    named(b", bytes never handed on", ring.used() as u64);
-    say(b"\n");
+    named(stdout, b"the last packet says op", op_of(&hdr) as u64)?;
+    named(stdout, b", bytes never handed on", ring.used() as u64)?;
+    say(stdout, b"\n")
 }
 
 fn op_of(hdr: &[u8]) -> u16 {

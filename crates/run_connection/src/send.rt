@@ -6,10 +6,12 @@ use csm::ConnState;
 use defs::limits::{MAX_CLOCK_MS, MAX_PKT_BUF_SIZE, VSOCK_PKT_HDR_SIZE};
 use defs::{StreamAnswer, StreamAnswers};
 use packet::{VsockPacketHdr, uapi};
+use std::io;
+use std::io::Stdout;
 use text::{front, named, say};
 
 // What a packet is sent with besides its connection. The buffer holds bytes 07.
-#[derive(Drop)]
+#[derive(Clone, Copy)]
 pub struct Sending {
     pub hdr: usize,
     pub op: u16,
@@ -38,31 +40,37 @@ pub fn data() -> Sending {
 }
 
 // The storage is shown by its first bytes.
-pub fn send(conn: VsockConnection, s: Sending, first: StreamAnswer) -> VsockConnection {
-    named(b"send hdr", s.hdr as u64);
-    named(b" op", s.op as u64);
-    named(b" len", s.len as u64);
-    show::buffer(s.present, s.buf);
-    named(b" clock", s.now_ms);
-    named(b" storage", s.storage as u64);
-    named(b" room", s.room as u64);
-    show::by(first);
+pub fn send(
+    stdout: &mut Stdout,
+    conn: VsockConnection,
+    s: Sending,
+    first: StreamAnswer,
+) -> io::Result<VsockConnection> {
+    named(stdout, b"send hdr", s.hdr as u64)?;
+    named(stdout, b" op", s.op as u64)?;
+    named(stdout, b" len", s.len as u64)?;
+    show::buffer(stdout, s.present, s.buf)?;
+    named(stdout, b" clock", s.now_ms)?;
+    named(stdout, b" storage", s.storage as u64)?;
+    named(stdout, b" room", s.room as u64)?;
+    show::by(stdout, first)?;
     let mut storage = [0x2eu8; SIZE + 1];
     let mut out = [0x2eu8; SIZE];
-    let next = delivered(conn, s, first, &mut storage, &mut out);
-    show::bytes(b" storage ", front(&storage, SIZE));
-    show::bytes(b" out ", &out);
-    say(b"\n");
-    next
+    let next = delivered(stdout, conn, s, first, &mut storage, &mut out)?;
+    show::bytes(stdout, b" storage ", front(&storage, SIZE))?;
+    show::bytes(stdout, b" out ", &out)?;
+    say(stdout, b"\n")?;
+    Ok(next)
 }
 
 fn delivered(
+    stdout: &mut Stdout,
     conn: VsockConnection,
     s: Sending,
     first: StreamAnswer,
     storage: &mut [u8],
     out: &mut [u8],
-) -> VsockConnection {
+) -> io::Result<VsockConnection> {
     let buf = sevens();
     let mut hdr = [0u8; VSOCK_PKT_HDR_SIZE + 1];
     let mut whole = [0u8; VSOCK_PKT_HDR_SIZE];
@@ -86,10 +94,10 @@ fn delivered(
     );
     let answer = after.answer;
     let next = after.conn;
-    show::answered(answer);
-    show::record(next);
-    show::timer(next);
-    next
+    show::answered(stdout, answer)?;
+    show::record(stdout, next)?;
+    show::timer(stdout, next)?;
+    Ok(next)
 }
 
 // The header of a packet, with a space of 200 bytes.
@@ -109,113 +117,126 @@ fn heading(s: Sending, hdr: &mut [u8]) {
     packet::encode(pkt, hdr);
 }
 
-pub fn clocks() {
+pub fn clocks(stdout: &mut Stdout) -> io::Result<()> {
     let mut s = data();
     s.now_ms = MAX_CLOCK_MS;
-    send(established(), s, StreamAnswer::Count(8));
+    send(stdout, established(), s, StreamAnswer::Count(8))?;
     s.now_ms = MAX_CLOCK_MS + 1;
-    send(established(), s, StreamAnswer::Count(8));
+    send(stdout, established(), s, StreamAnswer::Count(8))?;
+    Ok(())
 }
 
 // No header, one of a byte less and one of a byte more; beside the second a bad clock, beside the
 // third a bad storage too: the lowest number.
-pub fn headers() {
+pub fn headers(stdout: &mut Stdout) -> io::Result<()> {
     let mut s = data();
     s.hdr = 0;
-    send(established(), s, StreamAnswer::Count(8));
+    send(stdout, established(), s, StreamAnswer::Count(8))?;
     s.hdr = VSOCK_PKT_HDR_SIZE - 1;
     s.now_ms = MAX_CLOCK_MS + 1;
-    send(established(), s, StreamAnswer::Count(8));
+    send(stdout, established(), s, StreamAnswer::Count(8))?;
     s.hdr = VSOCK_PKT_HDR_SIZE + 1;
     s.storage = SIZE - 1;
-    send(established(), s, StreamAnswer::Count(8));
+    send(stdout, established(), s, StreamAnswer::Count(8))?;
+    Ok(())
 }
 
 // `len` over the buffer is refused in any state, but not where there is no buffer.
-pub fn lengths() {
+pub fn lengths(stdout: &mut Stdout) -> io::Result<()> {
     let mut s = data();
     s.len = 10;
-    send(established(), s, StreamAnswer::Count(10));
+    send(stdout, established(), s, StreamAnswer::Count(10))?;
     s.len = 11;
-    send(established(), s, StreamAnswer::Count(10));
-    send(standing(ConnState::Killed), s, StreamAnswer::Count(10));
+    send(stdout, established(), s, StreamAnswer::Count(10))?;
     send(
+        stdout,
+        standing(ConnState::Killed),
+        s,
+        StreamAnswer::Count(10),
+    )?;
+    send(
+        stdout,
         standing(ConnState::PeerClosed(true, true)),
         s,
         StreamAnswer::Count(10),
-    );
+    )?;
     s.present = false;
-    send(established(), s, StreamAnswer::Count(10));
-    large(s);
+    send(stdout, established(), s, StreamAnswer::Count(10))?;
+    large(stdout, s)
 }
 
 // The largest buffer and one byte more; the second is ignored where it doesn't count.
-fn large(sending: Sending) {
+fn large(stdout: &mut Stdout, sending: Sending) -> io::Result<()> {
     let mut s = sending;
     s.op = uapi::VSOCK_OP_CREDIT_REQUEST;
     s.present = true;
     s.buf = MAX_PKT_BUF_SIZE;
-    send(established(), s, StreamAnswer::Failed);
+    send(stdout, established(), s, StreamAnswer::Failed)?;
     s.buf = OVER;
-    send(established(), s, StreamAnswer::Failed);
+    send(stdout, established(), s, StreamAnswer::Failed)?;
     s.present = false;
-    send(established(), s, StreamAnswer::Failed);
+    send(stdout, established(), s, StreamAnswer::Failed)?;
+    Ok(())
 }
 
 // Ops that have no rule: credit is stored, and nothing more.
-pub fn ops() {
+pub fn ops(stdout: &mut Stdout) -> io::Result<()> {
     let mut s = data();
     s.op = 0;
-    send(established(), s, StreamAnswer::Failed);
+    send(stdout, established(), s, StreamAnswer::Failed)?;
     s.op = 8;
-    send(established(), s, StreamAnswer::Failed);
+    send(stdout, established(), s, StreamAnswer::Failed)?;
     s.op = u16::MAX;
-    send(established(), s, StreamAnswer::Failed);
+    send(stdout, established(), s, StreamAnswer::Failed)?;
+    Ok(())
 }
 
 // Counts up to what was offered and over it, room for them and not; a failure kills, also of a
 // write of no bytes, a would-block doesn't.
-pub fn answers() {
+pub fn answers(stdout: &mut Stdout) -> io::Result<()> {
     let mut s = data();
-    send(established(), s, StreamAnswer::Count(3));
-    send(established(), s, StreamAnswer::Count(9));
+    send(stdout, established(), s, StreamAnswer::Count(3))?;
+    send(stdout, established(), s, StreamAnswer::Count(9))?;
     s.room = 7;
-    send(established(), s, StreamAnswer::Count(8));
-    send(established(), s, StreamAnswer::Count(9));
-    send(established(), s, StreamAnswer::Count(7));
-    send(established(), s, StreamAnswer::WouldBlock);
-    send(established(), s, StreamAnswer::Failed);
+    send(stdout, established(), s, StreamAnswer::Count(8))?;
+    send(stdout, established(), s, StreamAnswer::Count(9))?;
+    send(stdout, established(), s, StreamAnswer::Count(7))?;
+    send(stdout, established(), s, StreamAnswer::WouldBlock)?;
+    send(stdout, established(), s, StreamAnswer::Failed)?;
     s.len = 0;
     s.buf = 0;
-    send(established(), s, StreamAnswer::Failed);
+    send(stdout, established(), s, StreamAnswer::Failed)?;
+    Ok(())
 }
 
 // A storage of one byte less and one more than the ring's size. In a ring that holds bytes no
 // write is made, so no answer is looked at; and it is full at 16.
-pub fn storages() {
+pub fn storages(stdout: &mut Stdout) -> io::Result<()> {
     let mut s = data();
     s.storage = SIZE - 1;
-    send(established(), s, StreamAnswer::Count(8));
+    send(stdout, established(), s, StreamAnswer::Count(8))?;
     s.storage = SIZE + 1;
-    send(established(), s, StreamAnswer::Count(8));
+    send(stdout, established(), s, StreamAnswer::Count(8))?;
     s.storage = SIZE;
-    let held = send(established(), s, StreamAnswer::Count(0));
-    let full = send(held, s, StreamAnswer::Count(99));
+    let held = send(stdout, established(), s, StreamAnswer::Count(0))?;
+    let full = send(stdout, held, s, StreamAnswer::Count(99))?;
     s.len = 0;
-    let still = send(full, s, StreamAnswer::Failed);
+    let still = send(stdout, full, s, StreamAnswer::Failed)?;
     s.len = 1;
-    send(still, s, StreamAnswer::Failed);
+    send(stdout, still, s, StreamAnswer::Failed)?;
+    Ok(())
 }
 
 // More held than the ring's size, a threshold over it, a timeout of 0.
-pub fn unsound() {
+pub fn unsound(stdout: &mut Stdout) -> io::Result<()> {
     let mut over = established();
     over.tx_buf.head = 17;
-    send(over, data(), StreamAnswer::Count(8));
+    send(stdout, over, data(), StreamAnswer::Count(8))?;
     let mut threshold = established();
     threshold.settings.threshold = 17;
-    send(threshold, data(), StreamAnswer::Count(8));
+    send(stdout, threshold, data(), StreamAnswer::Count(8))?;
     let mut timeout = established();
     timeout.settings.shutdown_timeout = 0;
-    send(timeout, data(), StreamAnswer::Count(8));
+    send(stdout, timeout, data(), StreamAnswer::Count(8))?;
+    Ok(())
 }

@@ -4,70 +4,77 @@ use conn_map::ConnMapKey;
 use defs::Answer;
 use defs::limits::MAX_KILLQ_SIZE;
 use muxer_killq::{MuxerKillQ, MuxerKillQItem};
+use std::io;
+use std::io::Stdout;
 use text::{named, say};
 
-fn timed(key: ConnMapKey, time: u64) {
-    say(b" ");
-    ports(key.local_port, key.peer_port);
-    named(b" at", time);
+fn timed(stdout: &mut Stdout, key: ConnMapKey, time: u64) -> io::Result<()> {
+    say(stdout, b" ")?;
+    ports(stdout, key.local_port, key.peer_port)?;
+    named(stdout, b" at", time)
 }
 
-fn item(it: MuxerKillQItem) {
+fn item(stdout: &mut Stdout, it: MuxerKillQItem) -> io::Result<()> {
     let key = ConnMapKey {
         local_port: it.local_port,
         peer_port: it.peer_port,
     };
-    timed(key, it.kill_time);
+    timed(stdout, key, it.kill_time)
 }
 
-fn end(answer: Answer, queue: MuxerKillQ) {
-    left(answer, queue.len, queue.limit, queue.synced);
+fn end(stdout: &mut Stdout, answer: Answer, queue: MuxerKillQ) -> io::Result<()> {
+    left(stdout, answer, queue.len, queue.limit, queue.synced)?;
     let a = queue.q[0];
     let b = queue.q[1];
     let c = queue.q[2];
-    item(a);
-    item(b);
-    item(c);
-    say(b" \n");
+    item(stdout, a)?;
+    item(stdout, b)?;
+    item(stdout, c)?;
+    say(stdout, b" \n")
 }
 
-pub fn new(limit: usize) -> MuxerKillQ {
-    named(b"kill new", limit as u64);
+pub fn new(stdout: &mut Stdout, limit: usize) -> io::Result<MuxerKillQ> {
+    named(stdout, b"kill new", limit as u64)?;
     let made = MuxerKillQ::new(limit);
     let answer = made.answer;
     let queue = made.queue;
-    end(answer, queue);
-    queue
+    end(stdout, answer, queue)?;
+    Ok(queue)
 }
 
-pub fn push(queue: MuxerKillQ, local_port: u32, kill_time: u64) -> MuxerKillQ {
+pub fn push(
+    stdout: &mut Stdout,
+    queue: MuxerKillQ,
+    local_port: u32,
+    kill_time: u64,
+) -> io::Result<MuxerKillQ> {
     let key = ConnMapKey {
         local_port,
         peer_port: 1,
     };
-    say(b"kill push");
-    timed(key, kill_time);
+    say(stdout, b"kill push")?;
+    timed(stdout, key, kill_time)?;
     let pushed = queue.push(key, kill_time);
     let answer = pushed.answer;
     let next = pushed.queue;
-    end(answer, next);
-    next
+    end(stdout, answer, next)?;
+    Ok(next)
 }
 
-pub fn pop(queue: MuxerKillQ, clock: u64) -> MuxerKillQ {
-    named(b"kill pop at", clock);
+pub fn pop(stdout: &mut Stdout, queue: MuxerKillQ, clock: u64) -> io::Result<MuxerKillQ> {
+    named(stdout, b"kill pop at", clock)?;
     let popped = queue.pop(clock);
     let answer = popped.answer;
     let key = popped.key;
     let next = popped.queue;
-    text::yes(popped.found);
-    say(b" ");
-    ports(key.local_port, key.peer_port);
-    end(answer, next);
-    next
+    text::yes(stdout, popped.found)?;
+    say(stdout, b" ")?;
+    ports(stdout, key.local_port, key.peer_port)?;
+    end(stdout, answer, next)?;
+    Ok(next)
 }
 
-pub fn look(queue: MuxerKillQ) {
+pub fn look(stdout: &mut Stdout, queue: MuxerKillQ) -> io::Result<()> {
     let synced = queue.is_synced();
     let empty = queue.is_empty();
     let full = queue.is_full();
@@ -77,43 +84,44 @@ pub fn look(queue: MuxerKillQ) {
     let full_answer = full.answer;
     let front_answer = front.answer;
     let it = front.item;
-    told(b"kill look synced", synced.holds, synced_answer);
-    told(b" empty", empty.holds, empty_answer);
-    told(b" full", full.holds, full_answer);
-    told(b" front", front.found, front_answer);
-    item(it);
-    say(b" \n");
+    told(stdout, b"kill look synced", synced.holds, synced_answer)?;
+    told(stdout, b" empty", empty.holds, empty_answer)?;
+    told(stdout, b" full", full.holds, full_answer)?;
+    told(stdout, b" front", front.found, front_answer)?;
+    item(stdout, it)?;
+    say(stdout, b" \n")
 }
 
-pub fn last(queue: MuxerKillQ) {
+pub fn last(stdout: &mut Stdout, queue: MuxerKillQ) -> io::Result<()> {
     let at = MAX_KILLQ_SIZE - 1;
-    named(b"kill place", at as u64);
+    named(stdout, b"kill place", at as u64)?;
     let it = queue.q[at];
-    item(it);
-    say(b" \n");
+    item(stdout, it)?;
+    say(stdout, b" \n")
 }
 
 pub fn build<'a>(
+    stdout: &mut Stdout,
     limit: usize,
     clock: u64,
     ports: &'a [u64],
     used: &'a [u8],
     times: &'a [u64],
-) -> MuxerKillQ {
-    named(b"kill build", limit as u64);
-    named(b" at", clock);
-    named(b" slots", ports.len() as u64);
+) -> io::Result<MuxerKillQ> {
+    named(stdout, b"kill build", limit as u64)?;
+    named(stdout, b" at", clock)?;
+    named(stdout, b" slots", ports.len() as u64)?;
     let built = MuxerKillQ::from_conn_map(limit, clock, ports, used, times);
     let answer = built.answer;
     let queue = built.queue;
-    end(answer, queue);
-    queue
+    end(stdout, answer, queue)?;
+    Ok(queue)
 }
 
-pub fn equal(a: MuxerKillQItem, b: MuxerKillQItem) {
-    say(b"equal");
-    item(a);
-    item(b);
-    text::yes(a.eq(b));
-    say(b" \n");
+pub fn equal(stdout: &mut Stdout, a: MuxerKillQItem, b: MuxerKillQItem) -> io::Result<()> {
+    say(stdout, b"equal")?;
+    item(stdout, a)?;
+    item(stdout, b)?;
+    text::yes(stdout, a.eq(b))?;
+    say(stdout, b" \n")
 }

@@ -2,37 +2,44 @@
 use conn_map::PORT_SPAN;
 use defs::Answer;
 use defs::limits::MAX_CONNECTIONS;
-use libc::STDOUT_FILENO;
+use std::io;
+use std::io::Stdout;
 use text::{named, say};
 
-pub fn answered(answer: Answer) {
-    named(b" :", defs::number_of(answer) as u64);
+pub fn answered(stdout: &mut Stdout, answer: Answer) -> io::Result<()> {
+    named(stdout, b" :", defs::number_of(answer) as u64)
 }
 
 // A queue's numbers, after a call on it.
-pub fn left(answer: Answer, len: usize, limit: usize, synced: bool) {
-    answered(answer);
-    text::number(len as u64);
-    named(b" of", limit as u64);
+pub fn left(
+    stdout: &mut Stdout,
+    answer: Answer,
+    len: usize,
+    limit: usize,
+    synced: bool,
+) -> io::Result<()> {
+    answered(stdout, answer)?;
+    text::number(stdout, len as u64)?;
+    named(stdout, b" of", limit as u64)?;
     if synced {
-        say(b" synced");
+        say(stdout, b" synced")
     } else {
-        say(b" unsynced");
+        say(stdout, b" unsynced")
     }
 }
 
 // A look's word, whether it holds, and the look's answer.
-pub fn told(word: &[u8], holds: bool, answer: Answer) {
-    say(word);
-    text::yes(holds);
-    answered(answer);
+pub fn told(stdout: &mut Stdout, word: &[u8], holds: bool, answer: Answer) -> io::Result<()> {
+    say(stdout, word)?;
+    text::yes(stdout, holds)?;
+    answered(stdout, answer)
 }
 
 // A local and a peer port.
-pub fn ports(local_port: u32, peer_port: u32) {
-    io::print_decimal(STDOUT_FILENO, local_port as u64);
-    say(b"/");
-    io::print_decimal(STDOUT_FILENO, peer_port as u64);
+pub fn ports(stdout: &mut Stdout, local_port: u32, peer_port: u32) -> io::Result<()> {
+    text::digits(stdout, local_port as u64)?;
+    say(stdout, b"/")?;
+    text::digits(stdout, peer_port as u64)
 }
 
 // As many slots as a table has at most: slot i has local port i.

@@ -3,17 +3,18 @@ use crate::scene::established;
 use conn_map::ConnMapKey;
 use connection::VsockConnection;
 use csm::{ConnState, Timer};
-use libc::STDOUT_FILENO;
 use muxer_killq::MuxerKillQ;
 use muxer_rxq::{MuxerRx, MuxerRxQ};
+use std::io;
+use std::io::Stdout;
 use text::{number, say, yes};
 
 // A kill time of 500: expired, by a connection's timer, and popped, by the kill queue.
-pub fn reading_i() {
-    say(b"i expired at 499");
-    yes(connection::has_expired(timed(500), 499).holds);
-    say(b", at 500");
-    yes(connection::has_expired(timed(500), 500).holds);
+pub fn reading_i(stdout: &mut Stdout) -> io::Result<()> {
+    say(stdout, b"i expired at 499")?;
+    yes(stdout, connection::has_expired(timed(500), 499).holds)?;
+    say(stdout, b", at 500")?;
+    yes(stdout, connection::has_expired(timed(500), 500).holds)?;
     let made = MuxerKillQ::new(2);
     let queue = made.queue;
     let pushed = queue.push(
@@ -24,11 +25,11 @@ pub fn reading_i() {
         500,
     );
     let waiting = pushed.queue;
-    say(b"; popped at 500");
-    yes(waiting.pop(500).found);
-    say(b", at 501");
-    yes(waiting.pop(501).found);
-    say(b"\n");
+    say(stdout, b"; popped at 500")?;
+    yes(stdout, waiting.pop(500).found)?;
+    say(stdout, b", at 501")?;
+    yes(stdout, waiting.pop(501).found)?;
+    say(stdout, b"\n")
 }
 
 // An established connection with a timer.
@@ -56,26 +57,31 @@ fn timed(time: u64) -> VsockConnection {
 }
 
 // Q = 2, [C1 C2]: RSTs r and s, a third; then a pop and one more.
-pub fn reading_j() {
-    say(b"j");
+pub fn reading_j(stdout: &mut Stdout) -> io::Result<()> {
+    say(stdout, b"j")?;
     let made = MuxerRxQ::new(2);
     let queue = made.queue;
-    let a = queued(queue, false, 1);
-    let b = queued(a, false, 2);
-    let c = queued(b, true, 8);
-    let d = queued(c, true, 9);
-    let e = queued(d, true, 10);
+    let a = queued(stdout, queue, false, 1)?;
+    let b = queued(stdout, a, false, 2)?;
+    let c = queued(stdout, b, true, 8)?;
+    let d = queued(stdout, c, true, 9)?;
+    let e = queued(stdout, d, true, 10)?;
     let popped = e.pop();
     let f = popped.queue;
-    say(b" pop;");
-    let g = queued(f, true, 10);
-    say(b" full");
-    yes(g.is_full().holds);
-    say(b"\n");
+    say(stdout, b" pop;")?;
+    let g = queued(stdout, f, true, 10)?;
+    say(stdout, b" full")?;
+    yes(stdout, g.is_full().holds)?;
+    say(stdout, b"\n")
 }
 
 // A push, its answer, and both places.
-fn queued(queue: MuxerRxQ, rst: bool, local_port: u32) -> MuxerRxQ {
+fn queued(
+    stdout: &mut Stdout,
+    queue: MuxerRxQ,
+    rst: bool,
+    local_port: u32,
+) -> io::Result<MuxerRxQ> {
     let pushed = queue.push(MuxerRx {
         rst,
         local_port,
@@ -85,19 +91,19 @@ fn queued(queue: MuxerRxQ, rst: bool, local_port: u32) -> MuxerRxQ {
     let next = pushed.queue;
     let first = next.q[0];
     let second = next.q[1];
-    number(defs::number_of(answer) as u64);
-    say(b" [");
-    say_item(first);
-    say_item(second);
-    say(b" ];");
-    next
+    number(stdout, defs::number_of(answer) as u64)?;
+    say(stdout, b" [")?;
+    say_item(stdout, first)?;
+    say_item(stdout, second)?;
+    say(stdout, b" ];")?;
+    Ok(next)
 }
 
-fn say_item(item: MuxerRx) {
+fn say_item(stdout: &mut Stdout, item: MuxerRx) -> io::Result<()> {
     if item.rst {
-        say(b" r");
+        say(stdout, b" r")?;
     } else {
-        say(b" C");
+        say(stdout, b" C")?;
     }
-    io::print_decimal(STDOUT_FILENO, item.local_port as u64);
+    text::digits(stdout, item.local_port as u64)
 }

@@ -4,6 +4,8 @@ use csm::ConnState;
 use defs::limits::VSOCK_PKT_HDR_SIZE;
 use defs::{ReadAnswer, StreamAnswer, StreamAnswers};
 use packet::{Decoded, VsockPacketHdr, uapi};
+use std::io;
+use std::io::Stdout;
 use text::{named, say};
 
 // The settings of readings a to l: R, T, and both timeouts.
@@ -102,21 +104,21 @@ pub fn sent(
     next
 }
 
-pub fn say_op(hdr: &[u8]) {
+pub fn say_op(stdout: &mut Stdout, hdr: &[u8]) -> io::Result<()> {
     let Decoded::Header(said) = packet::decode(hdr) else {
-        return;
+        return Ok(());
     };
-    named(b" op", said.op as u64);
+    named(stdout, b" op", said.op as u64)
 }
 
-pub fn say_state(conn: VsockConnection) {
+pub fn say_state(stdout: &mut Stdout, conn: VsockConnection) -> io::Result<()> {
     let state = conn.state;
     match state {
-        ConnState::LocalInit => say(b" LocalInit"),
-        ConnState::PeerInit => say(b" PeerInit"),
-        ConnState::Established => say(b" Established"),
-        ConnState::LocalClosed => say(b" LocalClosed"),
-        ConnState::PeerClosed(_, _) => say(b" PeerClosed"),
-        ConnState::Killed => say(b" Killed"),
+        ConnState::LocalInit => say(stdout, b" LocalInit"),
+        ConnState::PeerInit => say(stdout, b" PeerInit"),
+        ConnState::Established => say(stdout, b" Established"),
+        ConnState::LocalClosed => say(stdout, b" LocalClosed"),
+        ConnState::PeerClosed(_, _) => say(stdout, b" PeerClosed"),
+        ConnState::Killed => say(stdout, b" Killed"),
     }
 }

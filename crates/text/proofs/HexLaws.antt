@@ -13,7 +13,7 @@ length_hex_of : (l : List ℕ) → length (hex_of l) ≡ length l + length l
 length_hex_of [] = refl
 length_hex_of (b ∷ bs) = let e = length_hex_of bs in omega arith
 
-hex_of_append : (xs ys : List ℕ) → hex_of (xs ++ ys) ≡ hex_of xs ++ hex_of ys
+pub hex_of_append : (xs ys : List ℕ) → hex_of (xs ++ ys) ≡ hex_of xs ++ hex_of ys
 hex_of_append [] ys = refl
 hex_of_append (x ∷ xs) ys = rw (hex_of_append xs ys)
 

@@ -2,3 +2,4 @@ pub mod Edges
 pub mod HexLaws
 pub mod Promises
 pub mod Pinned
+pub mod Written

@@ -1,13 +1,17 @@
-// What the programs share: bytes as digits, words and numbers on standard output, parts of buffers.
+// What the programs share: bytes as digits, words and numbers on a writer, bytes from a reader, parts of buffers.
+#![tactic(auto)]
+
 ghost use Rattle.std.specs.Prelude.{◌≡◌, ◌<◌};
 ghost use Rattle.io.specs.Digits.{hex_digit_ascii};
 ghost use Rattle.text.specs.Hex.{hexed};
 
 mod part;
 mod print;
+mod read;
 
 pub use part::{fitting, front};
-pub use print::{bytes, named, number, say, yes};
+pub use print::{bytes, digits, named, number, say, yes};
+pub use read::fill;
 
 // Two hexadecimal digits for each byte, in lower case, at the front of `out`: as many bytes as
 // there is room for. The rest of `out` stays.

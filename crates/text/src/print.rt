@@ -1,51 +1,67 @@
-// Words, numbers and bytes on standard output.
-ghost use Rattle.text.specs.Print.{PrintSays};
+// Words, numbers and bytes on a writer: on standard output, where a program hands it that.
+ghost use Rattle.std.specs.Prelude.{◌++◌, ◌∷◌, []};
+ghost use Rattle.std.specs.Fmt.{decimal};
+ghost use Rattle.text.specs.Hex.{hex_of};
+ghost use Rattle.text.specs.Print.{WriteSays, number_text, yes_text};
 
-pub fn say(words: &[u8])
-    ensures { PrintSays result }
+use std::io;
+use std::io::Write;
+
+pub fn say<W: Write>(out: &mut W, words: &[u8]) -> io::Result<()>
+    ensures { WriteSays words.now (W.contents out.old) (W.contents out.new) result }
 {
-    io::write_all(libc::STDOUT_FILENO, words);
+    out.write_all(words)
+}
+
+// The number's digits alone.
+pub fn digits<W: Write>(out: &mut W, n: u64) -> io::Result<()>
+    ensures { WriteSays (decimal n) (W.contents out.old) (W.contents out.new) result }
+{
+    write!(out, "{n}")
 }
 
 // A blank and the number.
-pub fn number(n: u64)
-    ensures { PrintSays result }
+pub fn number<W: Write>(out: &mut W, n: u64) -> io::Result<()>
+    ensures { WriteSays (number_text n) (W.contents out.old) (W.contents out.new) result }
 {
-    say(b" ");
-    io::print_decimal(libc::STDOUT_FILENO, n);
+    say(out, b" ")?;
+    digits(out, n)
 }
 
-pub fn named(name: &[u8], n: u64)
-    ensures { PrintSays result }
+pub fn named<W: Write>(out: &mut W, name: &[u8], n: u64) -> io::Result<()>
+    ensures { WriteSays (name.now ++ number_text n) (W.contents out.old) (W.contents out.new) result }
 {
-    say(name);
-    number(n);
+    say(out, name)?;
+    number(out, n)
 }
 
-pub fn yes(holds: bool)
-    ensures { PrintSays result }
+pub fn yes<W: Write>(out: &mut W, holds: bool) -> io::Result<()>
+    ensures { WriteSays (yes_text holds) (W.contents out.old) (W.contents out.new) result }
 {
     if holds {
-        say(b" yes");
+        say(out, b" yes")
     } else {
-        say(b" no");
+        say(out, b" no")
     }
 }
 
 // Two digits for each byte.
-pub fn bytes(shown: &[u8])
-    ensures { PrintSays result }
+pub fn bytes<W: Write>(out: &mut W, shown: &[u8]) -> io::Result<()>
+    ensures { WriteSays (hex_of shown.now) (W.contents out.old) (W.contents out.new) result }
 {
     let mut i = 0;
     while i < shown.len() {
-        byte(shown[i]);
+        byte(out, shown[i])?;
         i += 1;
     }
+    Ok(())
 }
 
-fn byte(b: u8) {
+fn byte<W: Write>(out: &mut W, b: u8) -> io::Result<()>
+    ensures { WriteSays (hex_of (b ∷ [])) (W.contents out.old) (W.contents out.new) result }
+{
     let one = [b];
     let mut digits = [0u8; 2];
     crate::hex(&one, &mut digits);
-    say(&digits);
+    say(out, &digits)
 }
