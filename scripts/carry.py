@@ -81,7 +81,7 @@ def main(arguments):
     if arguments[:1] == ["--version"]:
         print("carry", open(os.path.join(HOME, "VERSION")).read().strip())
         return 0
-    if not os.path.exists(os.path.join(HOME, "target", "bin", "carry")):
+    if not os.path.exists(os.path.join(HOME, "crates", "carry", "out", "carry")):
         print("carry: it is not built yet: run `make run` first", file=sys.stderr)
         return 2
     keep_the_streams()
