@@ -2,12 +2,10 @@
 // answer and whether anything changed.
 #![tactic(auto)]
 
-use defs::limits::{MAX_PKT_BUF_SIZE, VSOCK_PKT_HDR_SIZE};
-use defs::{Answer, limits};
-use packet::Decoded;
+use defs::limits::{self, MAX_PKT_BUF_SIZE, VSOCK_PKT_HDR_SIZE};
+use std::fmt::Display;
 use std::io;
-use std::io::Stdout;
-use text::{named, number, say};
+use std::io::{Stdout, Write};
 
 // The ring whose thresholds are tried.
 const RING: u32 = 16;
@@ -25,225 +23,181 @@ fn main(rt: HostRuntime) -> io::Result<()> {
     copies(&mut stdout)
 }
 
-fn answer(stdout: &mut Stdout, a: Answer) -> io::Result<()> {
-    number(stdout, defs::number_of(a) as u64)
-}
-
 // ---- the header
 
 fn headers(stdout: &mut Stdout) -> io::Result<()> {
-    let shorter = [90u8; VSOCK_PKT_HDR_SIZE - 1];
-    let exact = [90u8; VSOCK_PKT_HDR_SIZE];
-    let longer = [90u8; VSOCK_PKT_HDR_SIZE + 1];
-    let long = filled();
     decoded(stdout, b"")?;
-    decoded(stdout, &shorter)?;
-    decoded(stdout, &exact)?;
-    decoded(stdout, &longer)?;
-    decoded(stdout, &long)
-}
-
-fn filled() -> [u8; MAX_PKT_BUF_SIZE] {
-    [90u8; MAX_PKT_BUF_SIZE]
+    decoded(stdout, &[b'Z'; VSOCK_PKT_HDR_SIZE - 1])?;
+    decoded(stdout, &[b'Z'; VSOCK_PKT_HDR_SIZE])?;
+    decoded(stdout, &[b'Z'; VSOCK_PKT_HDR_SIZE + 1])?;
+    decoded(stdout, &[b'Z'; MAX_PKT_BUF_SIZE])
 }
 
 fn decoded(stdout: &mut Stdout, bytes: &[u8]) -> io::Result<()> {
-    named(stdout, b"decode of", bytes.len() as u64)?;
-    say(stdout, b" bytes:")?;
-    match packet::decode(bytes) {
-        Decoded::Header(_) => answer(stdout, Answer::Done)?,
-        Decoded::BadHeader => answer(stdout, Answer::BadHeader)?,
-    }
-    say(stdout, b"\n")
+    let number = defs::number_of(packet::decode(bytes).and(Ok(())));
+    writeln!(stdout, "decode of {} bytes: {number}", bytes.len())
 }
 
 fn buffers(stdout: &mut Stdout) -> io::Result<()> {
-    let shorter = [90u8; VSOCK_PKT_HDR_SIZE - 1];
-    let exact = [90u8; VSOCK_PKT_HDR_SIZE];
-    let longer = [90u8; VSOCK_PKT_HDR_SIZE + 1];
-    let long = filled();
-    let mut none = [0u8; 0];
-    let mut out_shorter = shorter;
-    let mut out_exact = exact;
-    let mut out_longer = longer;
-    let mut out_long = filled();
-    encoded(stdout, &mut none, b"")?;
-    encoded(stdout, &mut out_shorter, &shorter)?;
-    encoded(stdout, &mut out_exact, &exact)?;
-    encoded(stdout, &mut out_longer, &longer)?;
-    encoded(stdout, &mut out_long, &long)
+    encoded(stdout, &mut [], b"")?;
+    encoded(
+        stdout,
+        &mut [b'Z'; VSOCK_PKT_HDR_SIZE - 1],
+        &[b'Z'; VSOCK_PKT_HDR_SIZE - 1],
+    )?;
+    encoded(
+        stdout,
+        &mut [b'Z'; VSOCK_PKT_HDR_SIZE],
+        &[b'Z'; VSOCK_PKT_HDR_SIZE],
+    )?;
+    encoded(
+        stdout,
+        &mut [b'Z'; VSOCK_PKT_HDR_SIZE + 1],
+        &[b'Z'; VSOCK_PKT_HDR_SIZE + 1],
+    )?;
+    encoded(
+        stdout,
+        &mut [b'Z'; MAX_PKT_BUF_SIZE],
+        &[b'Z'; MAX_PKT_BUF_SIZE],
+    )
 }
 
 fn encoded(stdout: &mut Stdout, out: &mut [u8], was: &[u8]) -> io::Result<()> {
-    let zero = [0u8; VSOCK_PKT_HDR_SIZE];
-    let Decoded::Header(hdr) = packet::decode(&zero) else {
+    let Ok(hdr) = packet::decode(&[0u8; VSOCK_PKT_HDR_SIZE]) else {
         return Ok(());
     };
-    named(stdout, b"encode into", out.len() as u64)?;
-    say(stdout, b" bytes:")?;
-    answer(stdout, packet::encode(hdr, out))?;
-    unchanged(stdout, check::same(out, was))
-}
-
-fn unchanged(stdout: &mut Stdout, same: bool) -> io::Result<()> {
-    if same {
-        say(stdout, b", unchanged\n")
-    } else {
-        say(stdout, b", changed\n")
-    }
+    let number = defs::number_of(packet::encode(hdr, out));
+    let changed = if &*out == was { "unchanged" } else { "changed" };
+    writeln!(
+        stdout,
+        "encode into {} bytes: {number}, {changed}",
+        out.len()
+    )
 }
 
 // A header of one byte value throughout comes back as it was: how many do, from 0 on.
 fn byte_values(stdout: &mut Stdout) -> io::Result<()> {
-    named(stdout, b"byte values that come back:", come_back())?;
-    say(stdout, b"\n")
-}
-
-fn come_back() -> u64 {
-    let mut byte: u64 = 0;
-    while byte < 256 {
-        if !comes_back((byte % 256) as u8) {
-            return byte;
-        }
-        byte += 1;
-    }
-    byte
+    let count = (0..=u8::MAX).take_while(|byte| comes_back(*byte)).count();
+    writeln!(stdout, "byte values that come back: {count}")
 }
 
 fn comes_back(byte: u8) -> bool {
     let bytes = [byte; VSOCK_PKT_HDR_SIZE];
     let mut out = [0u8; VSOCK_PKT_HDR_SIZE];
-    let Decoded::Header(hdr) = packet::decode(&bytes) else {
+    let Ok(hdr) = packet::decode(&bytes) else {
         return false;
     };
-    packet::encode(hdr, &mut out);
-    check::same(&bytes, &out)
+    let _ = packet::encode(hdr, &mut out);
+    bytes == out
 }
 
 // ---- the ladder
 
 fn ladder(stdout: &mut Stdout) -> io::Result<()> {
-    say(stdout, b"refusals of the 64 sets of tests:")?;
-    sets(stdout)?;
-    say(stdout, b"\n")
-}
-
-fn sets(stdout: &mut Stdout) -> io::Result<()> {
-    let mut set = 0;
-    while set < 64 {
-        refusal(stdout, set)?;
-        set += 1;
+    write!(stdout, "refusals of the 64 sets of tests:")?;
+    for set in 0..64 {
+        write!(stdout, " {}", refusal(set))?;
     }
-    Ok(())
+    writeln!(stdout)
 }
 
 // Of the tests 1 to 6 those whose bit is set hold, the lowest bit for test 1.
-fn refusal(stdout: &mut Stdout, set: u32) -> io::Result<()> {
-    let first = defs::door(holds(set, 1), holds(set, 2), holds(set, 4), holds(set, 8));
-    let second = defs::late(holds(set, 16), holds(set, 32));
-    answer(stdout, defs::lowest(first, second))
-}
-
-fn holds(set: u32, bit: u32) -> bool {
-    if bit == 0 {
-        return false;
-    }
-    set / bit % 2 == 1
+fn refusal(set: u32) -> u8 {
+    let holds = |bit: u32| set & bit != 0;
+    let first = defs::door(holds(1), holds(2), holds(4), holds(8));
+    defs::number_of(first.and(defs::late(holds(16), holds(32))))
 }
 
 // ---- limits
 
-fn test(stdout: &mut Stdout, n: u64, within: bool) -> io::Result<()> {
-    number(stdout, n)?;
-    text::yes(stdout, within)?;
-    say(stdout, b";")
+fn tests<N: Copy + Display, F: Fn(N) -> bool>(
+    stdout: &mut Stdout,
+    values: &[N],
+    within: F,
+) -> io::Result<()>
+    requires { F.IsAlwaysCallable within }
+{
+    for n in values {
+        let holds = if within(*n) { "yes" } else { "no" };
+        write!(stdout, " {n} {holds};")?;
+    }
+    writeln!(stdout)
 }
 
 fn settings(stdout: &mut Stdout) -> io::Result<()> {
-    say(stdout, b"ring size:")?;
-    ring_size(stdout, 0)?;
-    ring_size(stdout, limits::MIN_RING_SIZE / 2)?;
-    ring_size(stdout, limits::MIN_RING_SIZE)?;
-    ring_size(stdout, 24)?;
-    ring_size(stdout, limits::MAX_RING_SIZE / 8)?;
-    ring_size(stdout, limits::MAX_RING_SIZE / 2)?;
-    ring_size(stdout, limits::MAX_RING_SIZE - 1)?;
-    ring_size(stdout, limits::MAX_RING_SIZE)?;
-    ring_size(stdout, limits::MAX_RING_SIZE + 1)?;
-    ring_size(stdout, 2 * limits::MAX_RING_SIZE)?;
-    named(stdout, b"\nthreshold of a ring of", RING as u64)?;
-    say(stdout, b":")?;
-    threshold(stdout, limits::MIN_THRESHOLD - 1)?;
-    threshold(stdout, limits::MIN_THRESHOLD)?;
-    threshold(stdout, RING)?;
-    threshold(stdout, RING + 1)?;
-    say(stdout, b"\ntimeout:")?;
-    timeout(stdout, limits::MIN_TIMEOUT_MS - 1)?;
-    timeout(stdout, limits::MIN_TIMEOUT_MS)?;
-    timeout(stdout, limits::MAX_TIMEOUT_MS)?;
-    timeout(stdout, limits::MAX_TIMEOUT_MS + 1)?;
+    ring_sizes(stdout)?;
+    let thresholds = [
+        limits::MIN_THRESHOLD - 1,
+        limits::MIN_THRESHOLD,
+        RING,
+        RING + 1,
+    ];
+    write!(stdout, "threshold of a ring of {RING}:")?;
+    tests(stdout, &thresholds, |n| limits::is_threshold(n, RING))?;
+    let timeouts = [
+        limits::MIN_TIMEOUT_MS - 1,
+        limits::MIN_TIMEOUT_MS,
+        limits::MAX_TIMEOUT_MS,
+        limits::MAX_TIMEOUT_MS + 1,
+    ];
+    write!(stdout, "timeout:")?;
+    tests(stdout, &timeouts, limits::is_timeout)?;
     sizes(stdout)?;
-    say(stdout, b"\nclock:")?;
-    clock(stdout, 0)?;
-    clock(stdout, limits::MAX_CLOCK_MS)?;
-    clock(stdout, limits::MAX_CLOCK_MS + 1)?;
-    say(stdout, b"\n")
+    write!(stdout, "clock:")?;
+    tests(
+        stdout,
+        &[0, limits::MAX_CLOCK_MS, limits::MAX_CLOCK_MS + 1],
+        limits::is_clock,
+    )
+}
+
+fn ring_sizes(stdout: &mut Stdout) -> io::Result<()> {
+    let sizes = [
+        0,
+        limits::MIN_RING_SIZE / 2,
+        limits::MIN_RING_SIZE,
+        24,
+        limits::MAX_RING_SIZE / 8,
+        limits::MAX_RING_SIZE / 2,
+        limits::MAX_RING_SIZE - 1,
+        limits::MAX_RING_SIZE,
+        limits::MAX_RING_SIZE + 1,
+        2 * limits::MAX_RING_SIZE,
+    ];
+    write!(stdout, "ring size:")?;
+    tests(stdout, &sizes, limits::is_ring_size)
 }
 
 fn sizes(stdout: &mut Stdout) -> io::Result<()> {
-    say(stdout, b"\nRX queue:")?;
-    rxq(stdout, limits::MIN_RXQ_SIZE - 1)?;
-    rxq(stdout, limits::MIN_RXQ_SIZE)?;
-    rxq(stdout, limits::MAX_RXQ_SIZE / 2 + 1)?;
-    rxq(stdout, limits::MAX_RXQ_SIZE)?;
-    rxq(stdout, limits::MAX_RXQ_SIZE + 1)?;
-    say(stdout, b"\nkill queue:")?;
-    killq(stdout, limits::MIN_KILLQ_SIZE - 1)?;
-    killq(stdout, limits::MIN_KILLQ_SIZE)?;
-    killq(stdout, limits::MAX_KILLQ_SIZE)?;
-    killq(stdout, limits::MAX_KILLQ_SIZE + 1)?;
-    say(stdout, b"\ntable:")?;
-    slots(stdout, limits::MIN_CONNECTIONS - 1)?;
-    slots(stdout, limits::MIN_CONNECTIONS)?;
-    slots(stdout, limits::MAX_CONNECTIONS / 2 + 1)?;
-    slots(stdout, limits::MAX_CONNECTIONS)?;
-    slots(stdout, limits::MAX_CONNECTIONS + 1)?;
-    say(stdout, b"\npacket:")?;
-    packet_length(stdout, 0)?;
-    packet_length(stdout, MAX_PKT_BUF_SIZE)?;
-    packet_length(stdout, MAX_PKT_BUF_SIZE + 1)
-}
-
-fn ring_size(stdout: &mut Stdout, n: u32) -> io::Result<()> {
-    test(stdout, n as u64, limits::is_ring_size(n))
-}
-
-fn threshold(stdout: &mut Stdout, n: u32) -> io::Result<()> {
-    test(stdout, n as u64, limits::is_threshold(n, RING))
-}
-
-fn timeout(stdout: &mut Stdout, n: u64) -> io::Result<()> {
-    test(stdout, n, limits::is_timeout(n))
-}
-
-fn rxq(stdout: &mut Stdout, n: usize) -> io::Result<()> {
-    test(stdout, n as u64, limits::is_rxq_limit(n))
-}
-
-fn killq(stdout: &mut Stdout, n: usize) -> io::Result<()> {
-    test(stdout, n as u64, limits::is_killq_limit(n))
-}
-
-fn slots(stdout: &mut Stdout, n: usize) -> io::Result<()> {
-    test(stdout, n as u64, limits::is_slot_count(n))
-}
-
-fn packet_length(stdout: &mut Stdout, n: usize) -> io::Result<()> {
-    test(stdout, n as u64, limits::is_packet_length(n))
-}
-
-fn clock(stdout: &mut Stdout, n: u64) -> io::Result<()> {
-    test(stdout, n, limits::is_clock(n))
+    let rxq = [
+        limits::MIN_RXQ_SIZE - 1,
+        limits::MIN_RXQ_SIZE,
+        limits::MAX_RXQ_SIZE / 2 + 1,
+        limits::MAX_RXQ_SIZE,
+        limits::MAX_RXQ_SIZE + 1,
+    ];
+    write!(stdout, "RX queue:")?;
+    tests(stdout, &rxq, limits::is_rxq_limit)?;
+    let killq = [
+        limits::MIN_KILLQ_SIZE - 1,
+        limits::MIN_KILLQ_SIZE,
+        limits::MAX_KILLQ_SIZE,
+        limits::MAX_KILLQ_SIZE + 1,
+    ];
+    write!(stdout, "kill queue:")?;
+    tests(stdout, &killq, limits::is_killq_limit)?;
+    let slots = [
+        limits::MIN_CONNECTIONS - 1,
+        limits::MIN_CONNECTIONS,
+        limits::MAX_CONNECTIONS / 2 + 1,
+        limits::MAX_CONNECTIONS,
+        limits::MAX_CONNECTIONS + 1,
+    ];
+    write!(stdout, "table:")?;
+    tests(stdout, &slots, limits::is_slot_count)?;
+    let packet = [0, MAX_PKT_BUF_SIZE, MAX_PKT_BUF_SIZE + 1];
+    write!(stdout, "packet:")?;
+    tests(stdout, &packet, limits::is_packet_length)
 }
 
 // ---- copies
@@ -252,26 +206,24 @@ fn clock(stdout: &mut Stdout, n: u64) -> io::Result<()> {
 fn copies(stdout: &mut Stdout) -> io::Result<()> {
     let mut front = [1u8, 2, 3, 4];
     defs::copy(&mut front, b"\x07\x08");
-    say(stdout, b"a copy of 2 bytes to 4: ")?;
+    write!(stdout, "a copy of 2 bytes to 4: ")?;
     shown(stdout, front)?;
     defs::copy(&mut front, b"\x05\x06\x07\x08\x09");
-    say(stdout, b"a copy of 5 bytes to 4: ")?;
+    write!(stdout, "a copy of 5 bytes to 4: ")?;
     shown(stdout, front)?;
     defs::copy(&mut front, b"");
-    say(stdout, b"a copy of none to 4: ")?;
+    write!(stdout, "a copy of none to 4: ")?;
     shown(stdout, front)?;
     let src = marked();
     let mut dst = [0u8; LONG];
     defs::copy(&mut dst, &src);
-    named(stdout, b"a copy of", LONG as u64)?;
-    say(stdout, b" bytes is the source:")?;
-    test(stdout, LONG as u64, check::same(&dst, &src))?;
-    say(stdout, b"\n")
+    write!(stdout, "a copy of {LONG} bytes is the source:")?;
+    tests(stdout, &[LONG], |_| dst == src)
 }
 
 fn shown(stdout: &mut Stdout, bytes: [u8; 4]) -> io::Result<()> {
     text::bytes(stdout, &bytes)?;
-    say(stdout, b"\n")
+    writeln!(stdout)
 }
 
 fn marked() -> [u8; LONG] {

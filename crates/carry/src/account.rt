@@ -1,7 +1,8 @@
 // What standard error is told: what the program takes, how far it is, and the account at the end.
+use crate::arguments;
+use crate::arguments::Objection;
 use crate::trip::Trip;
-use crate::{arguments, trip};
-use defs::Answer;
+use defs::Refusal;
 use defs::limits::{MAX_PKT_BUF_SIZE, MIN_RING_SIZE};
 use std::io;
 use std::rt::Runtime;
@@ -12,33 +13,12 @@ const FAR: u64 = 67108864;
 // Where a 32-bit count comes round.
 const WRAP: u64 = 4294967296;
 
-// What is wrong with the arguments, the first of several, and what they may be.
-pub fn objection<R: Runtime>(
-    rt: &R,
-    ring: bool,
-    packet: bool,
-    moods: bool,
-    few: bool,
-) -> io::Result<()> {
-    if !ring {
-        eprintln!(rt; "carry: RING is not a ring's size")?;
-    } else if !packet {
-        eprintln!(rt; "carry: PACKET is not a packet's size")?;
-    } else if !moods {
-        eprintln!(rt; "carry: MOODS is not a script of moods")?;
-    } else if !few {
-        eprintln!(rt; "carry: there is an argument too many")?;
-    }
-    if !(ring & packet & moods & few) {
-        usage(rt)?;
-    }
-    Ok(())
-}
-
-fn usage<R: Runtime>(rt: &R) -> io::Result<()> {
+// What is wrong with the arguments, and what they may be.
+pub fn object<R: Runtime>(rt: &R, objection: Objection) -> io::Result<()> {
     let least = MIN_RING_SIZE;
     let most = arguments::MAX_RING;
     let longest = MAX_PKT_BUF_SIZE;
+    eprintln!(rt; "carry: {objection}")?;
     eprint!(rt; "usage: carry [RING [PACKET [MOODS]]]: ring a power of two")?;
     eprint!(rt; " from {least} to {most}, packet 1 to {longest}")?;
     eprintln!(rt; " bytes, moods of '.', 'p' and '1' to '9', not all 'p'")
@@ -68,16 +48,17 @@ fn told<R: Runtime>(rt: &R, what: &str, error: io::Error) -> io::Result<()> {
 }
 
 pub fn account<R: Runtime>(rt: &R, t: Trip) -> io::Result<()> {
-    let packets = t.packets;
-    let bytes_in = t.bytes_in;
-    let taken = t.taken;
-    let most = t.most;
     let held = t.conn.tx_buf.used();
-    let updates = t.updates;
-    let forwarded = t.conn.fwd_cnt;
-    eprint!(rt; "packets {packets}, bytes in {bytes_in}, bytes taken {taken}, most held {most}")?;
-    eprint!(rt; ", held now {held}, credit updates {updates}, forwarded count {forwarded}")?;
-    if WRAP <= taken {
+    eprint!(rt;
+        "packets {}, bytes in {}, bytes taken {}",
+        t.packets, t.bytes_in, t.taken
+    )?;
+    eprint!(rt; ", most held {}, held now {held}", t.most)?;
+    eprint!(rt;
+        ", credit updates {}, forwarded count {}",
+        t.updates, t.conn.fwd_cnt
+    )?;
+    if WRAP <= t.taken {
         eprint!(rt; " (bytes taken modulo 2^32)")?;
     }
     eprintln!(rt; "")?;
@@ -86,27 +67,17 @@ pub fn account<R: Runtime>(rt: &R, t: Trip) -> io::Result<()> {
 
 // What went wrong, if anything did, by 01's number and name where a call was refused.
 fn verdict<R: Runtime>(rt: &R, t: Trip, held: u32) -> io::Result<()> {
-    let last = t.last;
-    if trip::is_refused(last) {
-        let answer = last.answer;
-        let number = defs::number_of(answer);
-        let name = name(answer);
-        eprintln!(rt; "carry: a call was refused with answer {number}{name}")?;
+    if let Some(refusal) = t.refusal() {
+        let number = u8::from(refusal);
+        eprint!(rt; "carry: a call was refused with answer {number}")?;
+        // Those that change nothing are 1 to 6.
+        if number <= 6 {
+            eprint!(rt; ", {refusal:?}")?;
+        }
+        eprintln!(rt; "")?;
     }
-    if (t.bytes_in != t.taken) | (held != 0) {
+    if t.bytes_in != t.taken || held != 0 {
         eprintln!(rt; "carry: the stream took what is said above, the rest did not go on")?;
     }
     Ok(())
-}
-
-fn name(answer: Answer) -> &'static str {
-    match answer {
-        Answer::BadRecord => ", BadRecord",
-        Answer::BadHeader => ", BadHeader",
-        Answer::BadClock => ", BadClock",
-        Answer::BadLength => ", BadLength",
-        Answer::BadAnswer => ", BadAnswer",
-        Answer::NoRoom => ", NoRoom",
-        _ => "",
-    }
 }

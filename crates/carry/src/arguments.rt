@@ -1,91 +1,93 @@
 // What the program was asked for: the ring's size, the packets' size, the moods.
-use crate::{account, moods};
+use crate::moods::Moods;
 use defs::limits;
 use std::env::FillError;
-use std::io;
 use std::rt::Runtime;
+use std::{fmt, str};
 
 // The largest ring that there is storage for, whatever a ring may be.
 pub const MAX_RING: u32 = 65536;
 
 const USUAL_PACKET: u32 = 4096;
 
-// A number that no limit allows, for what isn't one.
-const NO_NUMBER: u32 = 4000000000;
-
 // The program's own name and its three arguments.
 const MOST: usize = 4;
 
 #[derive(Clone, Copy)]
-pub struct Wishes {
-    pub good: bool,
+pub struct Wishes<'a> {
     pub size: u32,
     pub packet: usize,
+    pub moods: Moods<'a>,
 }
 
-// What is wrong is named, the first of several.
-pub fn wished<R: Runtime>(rt: &R, script: &[u8], whole: bool) -> io::Result<Wishes> {
-    let size = argument(rt, 1, MAX_RING);
-    let packet = argument(rt, 2, USUAL_PACKET) as usize;
-    let ring = limits::is_ring_size(size) & (size <= MAX_RING);
-    let cut = limits::is_packet_length(packet) & (packet != 0);
-    let moody = whole & moods::can_end(script);
-    let few = is_missing(rt, MOST);
-    account::objection(rt, ring, cut, moody, few)?;
+// What is wrong with the arguments, the first of several.
+#[derive(Clone, Copy)]
+pub enum Objection {
+    Ring,
+    Packet,
+    Moods,
+    TooMany,
+}
+
+impl fmt::Display for Objection {
+    fn fmt<W: fmt::Write>(&self, f: &mut fmt::Formatter<W>) -> fmt::Result {
+        f.write_str(match self {
+            Objection::Ring => "RING is not a ring's size",
+            Objection::Packet => "PACKET is not a packet's size",
+            Objection::Moods => "MOODS is not a script of moods",
+            Objection::TooMany => "there is an argument too many",
+        })
+    }
+}
+
+// The script of moods is read into the room for it.
+pub fn wished<'a, R: Runtime>(rt: &R, room: &'a mut [u8]) -> Result<Wishes<'a>, Objection> {
+    let size = number(rt, 1, MAX_RING)
+        .filter(|size| limits::is_ring_size(*size) && *size <= MAX_RING)
+        .ok_or(Objection::Ring)?;
+    let packet = number(rt, 2, USUAL_PACKET)
+        .map(|packet| packet as usize)
+        .filter(|packet| limits::is_packet_length(*packet) && *packet != 0)
+        .ok_or(Objection::Packet)?;
+    let moods = script(rt, room).ok_or(Objection::Moods)?;
+    if !is_missing(rt, MOST) {
+        return Err(Objection::TooMany);
+    }
     Ok(Wishes {
-        good: ring & cut & moody & few,
         size,
         packet,
+        moods,
     })
 }
 
 fn is_missing<R: Runtime>(rt: &R, i: usize) -> bool {
-    let mut none = [0u8; 0];
-    match rt.arg(i, &mut none) {
-        Err(FillError::NotPresent) => true,
-        _ => false,
-    }
+    matches!(rt.arg(i, &mut []), Err(FillError::NotPresent))
 }
 
-// The script of moods: how long it is, and whether all of it is there.
-pub fn script<R: Runtime>(rt: &R, room: &mut [u8]) -> (usize, bool) {
-    match rt.arg(3, room) {
-        Ok(n) => (n, true),
-        Err(FillError::NotPresent) => (0, true),
-        Err(FillError::TooLong) => (0, false),
-    }
+fn script<'a, R: Runtime>(rt: &R, room: &'a mut [u8]) -> Option<Moods<'a>> {
+    let n = match rt.arg(3, room) {
+        Ok(n) => n,
+        Err(FillError::NotPresent) => 0,
+        Err(FillError::TooLong) => return None,
+    };
+    Moods::new(text::front(room, n))
 }
 
-// The number that an argument says, 0 where it says none; `usual` where there is no argument.
-fn argument<R: Runtime>(rt: &R, i: usize, usual: u32) -> u32 {
+// The number that an argument says; `usual` where there is no argument.
+fn number<R: Runtime>(rt: &R, i: usize, usual: u32) -> Option<u32> {
     let mut digits = [0u8; 64];
     match rt.arg(i, &mut digits) {
         Ok(n) => decimal(text::front(&digits, n)),
-        Err(FillError::NotPresent) => usual,
-        Err(FillError::TooLong) => 0,
+        Err(FillError::NotPresent) => Some(usual),
+        Err(FillError::TooLong) => None,
     }
 }
 
-fn decimal(digits: &[u8]) -> u32 {
-    let mut value = 0;
-    let mut i = 0;
-    while i < digits.len() {
-        value = append(value, digits[i]);
-        i += 1;
+// Digits alone: `parse` takes a sign before them too.
+fn decimal(digits: &[u8]) -> Option<u32> {
+    let text = str::from_utf8(digits).ok()?;
+    if text.starts_with('+') {
+        return None;
     }
-    value
-}
-
-// A digit more, as long as it is one and the number isn't too long.
-fn append(value: u32, digit: u8) -> u32 {
-    if digit < b'0' {
-        return NO_NUMBER;
-    }
-    if b'9' < digit {
-        return NO_NUMBER;
-    }
-    if NO_NUMBER / 10 < value {
-        return NO_NUMBER;
-    }
-    value * 10 + (digit - b'0') as u32
+    text.parse().ok()
 }

@@ -20,7 +20,7 @@ mod trip;
 mod waiting;
 
 use crate::arguments::Wishes;
-use crate::trip::Trip;
+use crate::trip::{Given, Trip};
 use std::io;
 use std::rt::Runtime;
 
@@ -32,82 +32,59 @@ const ROOM: usize = 65536;
 
 fn main(rt: HostRuntime) -> io::Result<()> {
     let mut script = [0u8; SCRIPT];
-    let (n, whole) = arguments::script(&rt, &mut script);
-    let moods = text::front(&script, n);
-    let wishes = arguments::wished(&rt, moods, whole)?;
-    if wishes.good {
-        start(&rt, wishes, moods)?;
+    match arguments::wished(&rt, &mut script) {
+        Ok(wishes) => start(&rt, wishes),
+        Err(objection) => account::object(&rt, objection),
     }
-    Ok(())
-}
-
-fn start<R: Runtime>(rt: &R, wishes: Wishes, moods: &[u8]) -> io::Result<()> {
-    let mut storage = [0u8; ROOM];
-    let mut buf = [0u8; ROOM];
-    let mut out = [0u8; ROOM];
-    let size = wishes.size as usize;
-    let done = sized(
-        rt,
-        trip::opened(wishes.size),
-        size,
-        wishes.packet,
-        moods,
-        &mut storage,
-        &mut buf,
-        &mut out,
-    );
-    account::account(rt, done)
 }
 
 // The ring's storage is just as long as the ring.
-fn sized<R: Runtime>(
-    rt: &R,
-    trip: Trip,
-    size: usize,
-    packet: usize,
-    moods: &[u8],
-    storage: &mut [u8],
-    buf: &mut [u8],
-    out: &mut [u8],
-) -> Trip {
-    let n = text::fitting(size, storage);
-    travel(rt, trip, packet, moods, &mut storage[..n], buf, out)
+fn start<R: Runtime>(rt: &R, wishes: Wishes<'_>) -> io::Result<()> {
+    let mut storage = [0u8; ROOM];
+    let mut buf = [0u8; ROOM];
+    let mut out = [0u8; ROOM];
+    let n = text::fitting(wishes.size as usize, &storage);
+    let given = Given {
+        rt,
+        packet: wishes.packet,
+        moods: wishes.moods,
+    };
+    let trip = Trip::opened(wishes.size);
+    let done = travel(&given, trip, &mut storage[..n], &mut buf, &mut out);
+    account::account(rt, done)
 }
 
-// A proved loop has to end, and nothing says that the input does: the turns are counted down from
-// a number that no run uses up.
+// A proved loop has to end, and nothing says that the input does: the turns are counted from a
+// range that no run uses up.
 fn travel<R: Runtime>(
-    rt: &R,
+    given: &Given<'_, R>,
     trip: Trip,
-    packet: usize,
-    moods: &[u8],
     storage: &mut [u8],
     buf: &mut [u8],
     out: &mut [u8],
 ) -> Trip {
-    let mut t = trip;
-    let mut turns = u64::MAX;
-    while turns > 0 && trip::goes_on(t) {
-        t = turn(rt, t, packet, moods, storage, buf, out);
-        turns -= 1;
+    let mut trip = trip;
+    for _ in 0..u64::MAX {
+        if !trip.goes_on() {
+            break;
+        }
+        trip = turn(given, trip, storage, buf, out);
     }
-    t
+    trip
 }
 
 // The guest hears what the core has to say, brings a packet, and the stream gets a chance to take
 // what is held.
 fn turn<R: Runtime>(
-    rt: &R,
+    given: &Given<'_, R>,
     trip: Trip,
-    packet: usize,
-    moods: &[u8],
     storage: &mut [u8],
     buf: &mut [u8],
     out: &mut [u8],
 ) -> Trip {
     let heard = guest::listen(trip);
-    let brought = guest::bring(rt, heard, packet, moods, storage, buf, out);
-    let drained = host::drain(rt, brought, moods, storage, out);
-    account::progress(rt, trip.taken, drained.taken);
+    let brought = guest::bring(given, heard, storage, buf, out);
+    let drained = host::drain(given, brought, storage, out);
+    account::progress(given.rt, trip.taken, drained.taken);
     drained
 }

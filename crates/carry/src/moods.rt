@@ -1,59 +1,49 @@
 // The script of the stream's moods: a character for each write that is due, over and over.
 
-// As it comes.
-const ANY: u8 = b'.';
-
-// It blocks.
-pub const PAUSE: u8 = b'p';
-
-// Each character is a mood, and not all of them are pauses: else nothing would ever be taken.
-pub fn can_end(moods: &[u8]) -> bool {
-    let mut good = true;
-    let mut takes = moods.len() == 0;
-    let mut i = 0;
-    while i < moods.len() {
-        let m = moods[i];
-        good = good & is_mood(m);
-        takes = takes | (m != PAUSE);
-        i += 1;
-    }
-    good & takes
+// How the stream takes a write: as it comes, not at all (it blocks), or at most so many bytes.
+#[derive(Clone, Copy, PartialEq, Eq)]
+pub enum Mood {
+    Any,
+    Pause,
+    Most(u8),
 }
 
-fn is_mood(m: u8) -> bool {
-    (m == ANY) | (m == PAUSE) | ((b'0' < m) & (m <= b'9'))
+impl Mood {
+    fn of(character: u8) -> Option<Mood> {
+        match character {
+            b'.' => Some(Mood::Any),
+            b'p' => Some(Mood::Pause),
+            b'1'..=b'9' => Some(Mood::Most(character - b'0')),
+            _ => None,
+        }
+    }
 }
 
-// The mood at a place of the script; without a script the stream is as it comes.
-pub fn mood(moods: &[u8], at: usize) -> u8 {
-    if at < moods.len() {
-        return moods[at];
-    }
-    ANY
-}
+#[derive(Clone, Copy)]
+pub struct Moods<'a>(&'a [u8]);
 
-// The place after a write: the first again after the last.
-pub fn next(at: usize, moods: usize) -> usize {
-    if at < moods {
-        return wrapped(at + 1, moods);
+impl<'a> Moods<'a> {
+    // Each character is a mood, and not all of them are pauses: else nothing would ever be taken.
+    pub fn new(script: &'a [u8]) -> Option<Moods<'a>> {
+        let good = script.iter().all(|c| Mood::of(*c).is_some());
+        let takes = script.is_empty() || script.iter().any(|c| Mood::of(*c) != Some(Mood::Pause));
+        (good && takes).then_some(Moods(script))
     }
-    0
-}
 
-fn wrapped(at: usize, moods: usize) -> usize {
-    if at == moods {
-        return 0;
+    // The mood at a place of the script; without a script the stream is as it comes.
+    pub fn at(self, place: usize) -> Mood {
+        self.0
+            .get(place)
+            .and_then(|c| Mood::of(*c))
+            .unwrap_or(Mood::Any)
     }
-    at
-}
 
-// How many bytes, of all, the stream takes at most: 1 to 9 where the mood is a digit.
-pub fn most(mood: u8, all: usize) -> usize {
-    if mood <= b'0' {
-        return all;
+    // The place after a write: the first again after the last.
+    pub fn after(self, place: usize) -> usize {
+        if place < self.0.len().saturating_sub(1) {
+            place + 1
+        } else {
+            0
+        }
     }
-    if b'9' < mood {
-        return all;
-    }
-    (mood - b'0') as usize
 }

@@ -1,7 +1,8 @@
 // Where the two ends of a trip stand, and the account that is kept of it.
+use crate::moods::Moods;
 use connection::{Settings, VsockConnection};
 use defs::limits::MAX_TIMEOUT_MS;
-use defs::{Answer, StreamAnswer};
+use defs::{Answer, Refusal, StreamAnswer};
 
 // The connection's addresses, and the space that the guest says it has.
 pub const HOST_CID: u64 = 2;
@@ -14,10 +15,13 @@ pub const GUEST_PORT: u32 = 5000;
 
 pub const GUEST_SPACE: u32 = 65536;
 
-// An answer in a struct of its own: a field that is an enum can't be set.
-#[derive(Clone, Copy)]
-pub struct Answered {
-    pub answer: Answer,
+// What stays as it is throughout: the system, the packets' size, the moods of the stream. The
+// buffers are lent beside it: two `&mut` of one struct can't yet be lent to one call.
+#[derive(Drop)]
+pub struct Given<'a, R> {
+    pub rt: &'a R,
+    pub packet: usize,
+    pub moods: Moods<'a>,
 }
 
 #[derive(Clone, Copy)]
@@ -32,9 +36,7 @@ pub struct Trip {
     // The input has ended; the connection has been reset; how the last call was answered.
     pub ended: bool,
     pub over: bool,
-    pub last: Answered,
-    // The input could not be read.
-    pub unread: bool,
+    pub last: Answer,
     // The place in the script of moods.
     pub writes: usize,
     pub packets: u64,
@@ -44,86 +46,69 @@ pub struct Trip {
     pub updates: u64,
 }
 
-// A connection that the guest opened, with a ring of this size, and nothing sent yet.
-pub fn opened(size: u32) -> Trip {
-    let settings = Settings {
-        threshold: size / 2,
-        request_timeout: 2000,
-        shutdown_timeout: MAX_TIMEOUT_MS,
-    };
-    let opening = connection::new_peer_init(
-        size,
-        settings,
-        HOST_CID,
-        GUEST_CID,
-        HOST_PORT,
-        GUEST_PORT,
-        GUEST_SPACE,
-    );
-    let conn = opening.conn;
-    Trip {
-        conn,
-        sent: 0,
-        alloc: 0,
-        heard: 0,
-        asked: false,
-        ended: false,
-        over: false,
-        last: Answered {
-            answer: Answer::Done,
-        },
-        unread: false,
-        writes: 0,
-        packets: 0,
-        bytes_in: 0,
-        taken: 0,
-        most: 0,
-        updates: 0,
+impl Trip {
+    // A connection that the guest opened, with a ring of this size, and nothing sent yet.
+    pub fn opened(size: u32) -> Trip {
+        let settings = Settings {
+            threshold: size / 2,
+            request_timeout: 2000,
+            shutdown_timeout: MAX_TIMEOUT_MS,
+        };
+        let opening = connection::new_peer_init(
+            size,
+            settings,
+            HOST_CID,
+            GUEST_CID,
+            HOST_PORT,
+            GUEST_PORT,
+            GUEST_SPACE,
+        );
+        Trip {
+            conn: opening.conn,
+            sent: 0,
+            alloc: 0,
+            heard: 0,
+            asked: false,
+            ended: false,
+            over: false,
+            last: Ok(()),
+            writes: 0,
+            packets: 0,
+            bytes_in: 0,
+            taken: 0,
+            most: 0,
+            updates: 0,
+        }
     }
-}
 
-pub fn goes_on(t: Trip) -> bool {
-    !t.over & !is_refused(t.last)
-}
-
-// The connection as a call left it, and how the call was answered.
-pub fn moved(trip: Trip, conn: VsockConnection, answer: Answer) -> Trip {
-    let ring = conn.tx_buf;
-    let mut t = trip;
-    t.conn = conn;
-    let last = Answered { answer };
-    t.last = last;
-    t.most = larger(t.most, ring.used());
-    t
-}
-
-// Whether the last call was refused; "nothing to say" is no refusal.
-pub fn is_refused(last: Answered) -> bool {
-    let answer = last.answer;
-    match answer {
-        Answer::Done => false,
-        Answer::NoData => false,
-        _ => true,
+    pub fn goes_on(self) -> bool {
+        !self.over && self.refusal().is_none()
     }
-}
 
-fn larger(a: u32, b: u32) -> u32 {
-    if a < b { b } else { a }
-}
-
-pub fn add(a: u64, b: u64) -> u64 {
-    if u64::MAX - a < b {
-        return u64::MAX;
+    // The connection as a call left it, and how the call was answered.
+    pub fn moved(self, conn: VsockConnection, answer: Answer) -> Trip {
+        Trip {
+            conn,
+            last: answer,
+            most: self.most.max(conn.tx_buf.used()),
+            ..self
+        }
     }
-    a + b
-}
 
-pub fn add_len(a: u64, len: u32) -> u64 {
-    add(a, len as u64)
-}
+    // The same after a call that leaves the connection as it was where it is refused.
+    pub fn after(self, outcome: Result<VsockConnection, Refusal>) -> Trip {
+        match outcome {
+            Ok(conn) => self.moved(conn, Ok(())),
+            Err(refusal) => self.moved(self.conn, Err(refusal)),
+        }
+    }
 
-pub fn add_count(a: u64, answer: StreamAnswer) -> u64 {
-    add(a, count_of(answer) as u64)
+    // Whether the last call was refused; "nothing to say" is no refusal.
+    pub fn refusal(self) -> Option<Refusal> {
+        self.last
+            .err()
+            .filter(|refusal| *refusal != Refusal::NoData)
+    }
 }
 
 // As many bytes as the stream took.
@@ -132,4 +117,9 @@ pub fn count_of(answer: StreamAnswer) -> usize {
         return 0;
     };
     n
+}
+
+// The bytes that were taken, and as many more.
+pub fn more_taken(taken: u64, answer: StreamAnswer) -> u64 {
+    taken.saturating_add(count_of(answer) as u64)
 }

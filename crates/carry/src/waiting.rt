@@ -32,9 +32,5 @@ fn wait(side: &[u8]) -> u8 {
 
 // A call on a stream failed because it would have had to wait, or was interrupted.
 pub fn would_block(error: std::io::Error) -> bool {
-    match error.kind() {
-        ErrorKind::WouldBlock => true,
-        ErrorKind::Interrupted => true,
-        _ => false,
-    }
+    matches!(error.kind(), ErrorKind::WouldBlock | ErrorKind::Interrupted)
 }

@@ -1,15 +1,16 @@
 -- Marks and the sort find two used slots with the same ports exactly where there are such; each turn of the code's loops. Assumes nothing.
-use Prim.Native.Nat.{ℕ, suc, zero, ◌+◌, ◌-◌, ◌≤◌, ◌<◌}
+use Prim.Native.Nat.{ℕ, suc, zero, ◌+◌, ◌<◌}
 use mathlib.Core.Path.{◌≡◌, refl, ap, sym, ◌∙◌}
 use mathlib.Core.Bool.{Bool, true, false, not, ◌&&◌, ◌||◌}
-use mathlib.Core.List.{List, [], ◌∷◌, ◌++◌, append-nil}
+use mathlib.Core.List.{List, [], ◌∷◌, ◌++◌, reverse}
 use native.Mathlib.Omega.{arith}
 use native.Mathlib.Numerals.{add-one}
 use native.Mathlib.Nat.{mod-lt}
 use borrow.Author.Tests.{eqb-true, eqb-false, eq-eqb, ne_eqb}
 use lib.Dec.{eqb}
 use lib.ListN.{length, get_or, take, set, length-set}
-use lib.Seq.{get_or-set_same, get_or-set_other, take-suc-set, append_snoc}
+use lib.Seq.{get_or-set_same, get_or-set_other, take-suc-set}
+use Rattle.std.proofs.lemmas.Grind.{reverse_onto}
 use Rattle.defs.specs.Choice.{when}
 use Rattle.defs.proofs.Basics.{never, neither}
 use Rattle.defs.proofs.ChoiceLaws.{when_true, when_false, when_holds}
@@ -199,32 +200,29 @@ module _ (ports used marks next : List ℕ) (i : ℕ) (m : next ≡ marked marks
 pub finds_none : (ports used marks : List ℕ) (i : ℕ) (found : Bool) → get_or used i 0 ≡ 0 → found ≡ repeats marks (keys_to ports used i) → found ≡ repeats marks (keys_to ports used (i + 1))
 finds_none ports used marks i found u f = f ∙ ap (repeats marks) (sym (keys_skip ports used i u))
 
--- ---- the turns of the gathering, from the last slot down
+-- ---- the turns of the gathering
 
-module _ (ports used marks : List ℕ) (i : ℕ) (some : 0 < i) (out : List ℕ) (n : ℕ) (whole : List ℕ) (e : take n out ++ chosen (again marks) (keys_to ports used i) ≡ whole) where
-  left : i ≡ i - 1 + 1
-  left = omega arith
-
-  module _ (u : get_or used (i - 1) 0 ≡ 0 → ⊥) (h : ℕ) (p : h ≡ mark_of (get_or ports (i - 1) 0)) where
-    chosen_is : chosen (again marks) (keys_to ports used i) ≡ when (eqb (get_or marks h 0) 2) (get_or ports (i - 1) 0 ∷ chosen (again marks) (keys_to ports used (i - 1))) (chosen (again marks) (keys_to ports used (i - 1)))
-    unfolding chosen again
-    chosen_is = ap (λ (k : ℕ). chosen (again marks) (keys_to ports used k)) left ∙ ap (chosen (again marks)) (keys_more ports used (i - 1) u) ∙ rw p
-
-    pub takes_one : n < length out → get_or marks h 0 ≡ 2 → take (n + 1) (set out n (get_or ports (i - 1) 0)) ++ chosen (again marks) (keys_to ports used (i - 1)) ≡ whole
-    takes_one l q =
-        ap (λ (t : List ℕ). t ++ chosen (again marks) (keys_to ports used (i - 1))) (ap (λ (k : ℕ). take k (set out n (get_or ports (i - 1) 0))) (add-one n) ∙ take-suc-set out n _ l)
-        ∙ append_snoc (take n out) (get_or ports (i - 1) 0) _
-        ∙ ap (λ (t : List ℕ). take n out ++ t) (sym (chosen_is ∙ when_true _ _ _ (eq-eqb _ 2 q)))
-        ∙ e
-
-    pub leaves_one : (get_or marks h 0 ≡ 2 → ⊥) → take n out ++ chosen (again marks) (keys_to ports used (i - 1)) ≡ whole
-    leaves_one q = ap (λ (t : List ℕ). take n out ++ t) (sym (chosen_is ∙ when_false _ _ _ (ne_eqb _ 2 q))) ∙ e
-
-  pub skips_one : get_or used (i - 1) 0 ≡ 0 → take n out ++ chosen (again marks) (keys_to ports used (i - 1)) ≡ whole
-  skips_one u = ap (λ (t : List ℕ). take n out ++ chosen (again marks) t) (sym (ap (keys_to ports used) left ∙ keys_skip ports used (i - 1) u)) ∙ e
-
-pub all_gathered : (ports used marks : List ℕ) (i : ℕ) (out : List ℕ) (n : ℕ) (whole : List ℕ) → i ≤ 0 → take n out ++ chosen (again marks) (keys_to ports used i) ≡ whole → take n out ≡ whole
+-- none is gathered yet
+pub none_gathered : (ports used marks out : List ℕ) → take 0 out ≡ reverse (chosen (again marks) (keys_to ports used 0))
 unfolding chosen keys_to
-all_gathered ports used marks i out n whole z e =
-    let y : i ≡ 0 = omega arith in
-    sym (append-nil (take n out)) ∙ sym (ap (λ (k : ℕ). take n out ++ chosen (again marks) (keys_to ports used k)) y) ∙ e
+none_gathered ports used marks out = refl
+
+module _ (ports used marks : List ℕ) (i : ℕ) (out : List ℕ) (n : ℕ) (e : take n out ≡ reverse (chosen (again marks) (keys_to ports used i))) where
+  module _ (u : get_or used i 0 ≡ 0 → ⊥) (h : ℕ) (p : h ≡ mark_of (get_or ports i 0)) where
+    chosen_is : chosen (again marks) (keys_to ports used (i + 1)) ≡ when (eqb (get_or marks h 0) 2) (get_or ports i 0 ∷ chosen (again marks) (keys_to ports used i)) (chosen (again marks) (keys_to ports used i))
+    unfolding chosen again
+    chosen_is = ap (chosen (again marks)) (keys_more ports used i u) ∙ rw p
+
+    pub takes_one : n < length out → get_or marks h 0 ≡ 2 → take (n + 1) (set out n (get_or ports i 0)) ≡ reverse (chosen (again marks) (keys_to ports used (i + 1)))
+    takes_one l q =
+        ap (λ (k : ℕ). take k (set out n (get_or ports i 0))) (add-one n)
+        ∙ take-suc-set out n _ l
+        ∙ ap (λ (t : List ℕ). t ++ (get_or ports i 0 ∷ [])) e
+        ∙ sym (reverse_onto (chosen (again marks) (keys_to ports used i)) (get_or ports i 0) [])
+        ∙ ap reverse (sym (chosen_is ∙ when_true _ _ _ (eq-eqb _ 2 q)))
+
+    pub leaves_one : (get_or marks h 0 ≡ 2 → ⊥) → take n out ≡ reverse (chosen (again marks) (keys_to ports used (i + 1)))
+    leaves_one q = e ∙ ap reverse (sym (chosen_is ∙ when_false _ _ _ (ne_eqb _ 2 q)))
+
+  pub skips_one : get_or used i 0 ≡ 0 → take n out ≡ reverse (chosen (again marks) (keys_to ports used (i + 1)))
+  skips_one u = e ∙ ap (λ (t : List ℕ). reverse (chosen (again marks) t)) (sym (keys_skip ports used i u))

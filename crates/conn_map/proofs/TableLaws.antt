@@ -1,5 +1,5 @@
 -- The test of a table means that no two used slots have the same ports; a walk over the slots. Assumes nothing.
-use Prim.Native.Nat.{ℕ, suc, zero, ◌+◌, ◌-◌, ◌/◌, ◌%◌, ◌^◌, ◌<◌, ◌≤◌}
+use Prim.Native.Nat.{ℕ, suc, zero, ◌/◌, ◌%◌, ◌^◌, ◌<◌, ◌≤◌}
 use mathlib.Core.Path.{◌≡◌, refl, ap, sym, ◌∙◌}
 use mathlib.Core.Bool.{Bool, true, false, not, ◌&&◌, ◌||◌}
 use mathlib.Core.List.{List, [], ◌∷◌, map}
@@ -8,12 +8,13 @@ use lib.ListN.{length, get_or}
 use lib.Dec.{eqb, leb, ltb}
 use borrow.Author.Tests.{eqb-true, eqb-false, eq-eqb, ne_eqb, le-leb, leb-true, ltb-true, ltb-false}
 use native.Mathlib.Omega.{arith}
-use native.Mathlib.Numerals.{add-one}
+use Rattle.std.specs.Prelude.{cond, filter}
+use Rattle.std.specs.List.{zip}
+use Rattle.defs.specs.Choice.{when}
 use Rattle.defs.specs.Limits.{min_slots, max_slots, is_slot_count}
 use Rattle.defs.specs.Promises.{Exactly}
 use Rattle.defs.proofs.Basics.{both, both_true, never, true_or_false, or_left, or_right}
 use Rattle.defs.proofs.MeansLaws.{some_means}
-use Rattle.defs.proofs.ChoiceLaws.{when_true, when_false}
 use Rattle.conn_map.specs.Key.{key_of}
 use Rattle.conn_map.specs.Table.{Slot, slot_at, slots_from, slots_of, chosen, gathered, any_below, used_at, hit, distinct, sound_table}
 use Rattle.conn_map.specs.Promises.{SamePorts, NoTwoAlike, SoundMeans, NumberIsPorts}
@@ -158,31 +159,39 @@ slots_fit slots e = leb-true slots max_slots (both (leb min_slots slots) _ e).1
 
 -- ---- a walk over the slots
 
-module _ {A : Type 0} (test : Slot → Bool) (make : Slot → A) (ports used marks : List ℕ) where
-  -- what the slots from i on give
-  pub rest : ℕ → List A
-  rest i = gathered test make (slots_from ports used marks i (length ports - i))
+-- what a walk over the three slices at once sees of a slot: its ports, whether it is used, its mark
+abbrev pub slot_in : (ℕ × ℕ) × ℕ → Slot
+slot_in s = record { used = not (eqb s.0.1 0); key = key_of s.0.0; mark = s.1 }
 
-  pub rest_all : gathered test make (slots_of ports used marks) ≡ rest 0
-  unfolding rest slots_of
-  rest_all = ap (λ (n : ℕ). gathered test make (slots_from ports used marks 0 n)) (let z : length ports ≡ length ports - 0 = omega arith in z)
+behind : (p u m : ℕ) (ports used marks : List ℕ) (i n : ℕ) → slots_from (p ∷ ports) (u ∷ used) (m ∷ marks) (suc i) n ≡ slots_from ports used marks i n
+unfolding slots_from used_at
+behind p u m ports used marks i zero = refl
+behind p u m ports used marks i (suc n) = ap (λ (l : List Slot). slot_at ports used marks i ∷ l) (behind p u m ports used marks (suc i) n)
 
-  slots_more : (i : ℕ) → i < length ports
-      → slots_from ports used marks i (length ports - i) ≡ slot_at ports used marks i ∷ slots_from ports used marks (i + 1) (length ports - (i + 1))
-  unfolding slots_from
-  slots_more i h = let s : length ports - i ≡ suc (length ports - (i + 1)) = omega arith in rw (s, add-one i)
+-- it sees the slots of the table
+slots_in : (ports used marks : List ℕ) → length used ≡ length ports → length marks ≡ length ports → slots_of ports used marks ≡ map slot_in (zip (zip ports used) marks)
+unfolding slots_of slots_from used_at
+slots_in [] used marks u m = refl
+slots_in (p ∷ ports) [] marks u m = absurd (omega arith)
+slots_in (p ∷ ports) (v ∷ used) [] u m = absurd (omega arith)
+slots_in (p ∷ ports) (v ∷ used) (n ∷ marks) u m =
+    ap (λ (l : List Slot). slot_in ((p, v), n) ∷ l) (behind p v n ports used marks 0 (length ports) ∙ slots_in ports used marks (omega arith) (omega arith))
 
-  pub rest_yes : (i : ℕ) → i < length ports → test (slot_at ports used marks i) ≡ true → rest i ≡ make (slot_at ports used marks i) ∷ rest (i + 1)
-  unfolding rest gathered chosen
-  rest_yes i h e = ap (gathered test make) (slots_more i h) ∙ ap (map make) (when_true _ _ _ e)
+module _ {A : Type 0} (test : Slot → Bool) (make : Slot → A) where
+  gathered_map : {B : Type 0} (f : B → Slot) (l : List B) → gathered test make (map f l) ≡ map (λ (x : B). make (f x)) (filter (λ (x : B). test (f x)) l)
+  unfolding gathered chosen when
+  gathered_map f [] = refl
+  gathered_map {B = B} f (x ∷ l) = by (test (f x)) (gathered_map f l)
+    where
+      by : (b : Bool) → gathered test make (map f l) ≡ map (λ (x : B). make (f x)) (filter (λ (x : B). test (f x)) l)
+          → map make (when b (f x ∷ chosen test (map f l)) (chosen test (map f l))) ≡ map (λ (x : B). make (f x)) (cond b (x ∷ filter (λ (x : B). test (f x)) l) (filter (λ (x : B). test (f x)) l))
+      by true e = ap (λ (l : List A). make (f x) ∷ l) e
+      by false e = e
 
-  pub rest_no : (i : ℕ) → i < length ports → test (slot_at ports used marks i) ≡ false → rest i ≡ rest (i + 1)
-  unfolding rest gathered chosen
-  rest_no i h e = ap (gathered test make) (slots_more i h) ∙ ap (map make) (when_false _ _ _ e)
-
-  pub rest_end : (i : ℕ) → length ports ≤ i → rest i ≡ []
-  unfolding rest gathered chosen slots_from
-  rest_end i h = let s : length ports - i ≡ 0 = omega arith in rw s
+  -- what the slots that pass a test give is what such a walk gathers
+  pub gathered_in : (ports used marks : List ℕ) → length used ≡ length ports → length marks ≡ length ports
+      → map (λ (s : (ℕ × ℕ) × ℕ). make (slot_in s)) (filter (λ (s : (ℕ × ℕ) × ℕ). test (slot_in s)) (zip (zip ports used) marks)) ≡ gathered test make (slots_of ports used marks)
+  gathered_in ports used marks u m = sym (ap (gathered test make) (slots_in ports used marks u m) ∙ gathered_map slot_in (zip (zip ports used) marks))
 
 -- ---- what a build knows past its refusals: its limit within its places, the slices equally long
 

@@ -1,5 +1,5 @@
 -- No two used slots with the same ports, as the code tests it: by marks, and by a sort of those whose mark is left again. No public contract cites this. Assumes nothing.
-use Rattle.std.specs.Prelude.{ℕ, suc, zero, ◌%◌, Bool, false, not, ◌&&◌, ◌||◌, List, [], ◌∷◌, length, get_or, set, eqb, leb, ltb}
+use Rattle.std.specs.Prelude.{ℕ, suc, zero, ◌%◌, Bool, false, not, ◌||◌, List, [], ◌∷◌, get_or, set, eqb}
 use Rattle.defs.specs.Choice.{when}
 use Rattle.conn_map.specs.Table.{used_at}
 
@@ -45,23 +45,3 @@ repeats marks (x ∷ l) = repeats marks l || not (eqb (get_or (marked marks l) (
 -- a key's mark was left again
 unfoldable pub again : List ℕ → ℕ → Bool
 again marks key = eqb (get_or marks (mark_of key) 0) 2
-
--- ---- the sort
-
--- a key put before the first that is not smaller
-unfoldable pub insert : ℕ → List ℕ → List ℕ
-insert x [] = x ∷ []
-insert x (y ∷ l) = when (leb x y) (x ∷ y ∷ l) (y ∷ insert x l)
-
--- each key of the first list put into the second: of two sorted lists, their merge
-unfoldable pub inserted : List ℕ → List ℕ → List ℕ
-inserted [] m = m
-inserted (x ∷ l) m = insert x (inserted l m)
-
--- a list sorted
-abbrev pub sorted : List ℕ → List ℕ
-sorted l = inserted l []
-
--- the next key of a merge is the one at i, before half, and not the one at j: there is one, and the other is not smaller
-unfoldable pub is_first : List ℕ → ℕ → ℕ → ℕ → Bool
-is_first keys half i j = ltb i half && (leb (length keys) j || leb (get_or keys i 0) (get_or keys j 0))

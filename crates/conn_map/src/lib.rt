@@ -4,7 +4,6 @@
 
 mod distinct;
 mod key;
-mod sort;
 mod table;
 
 pub use key::{ConnMapKey, PORT_SPAN, key_of};

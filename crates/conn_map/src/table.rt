@@ -6,17 +6,10 @@ use crate::distinct;
 use defs::limits;
 
 // Whether the table is sound; `marks` is the length of the third slice that the call lends.
-// One lifetime for both slices: so fields of one record can be lent together.
-pub fn is_sound<'a>(ports: &'a [u64], used: &'a [u8], marks: usize) -> bool
+pub fn is_sound(ports: &[u64], used: &[u8], marks: usize) -> bool
     ensures { result ≡ sound_table ports.now used.now marks }
 {
-    if !limits::is_slot_count(ports.len()) {
-        return false;
-    }
-    if used.len() != ports.len() {
-        return false;
-    }
-    if marks != ports.len() {
+    if !limits::is_slot_count(ports.len()) || used.len() != ports.len() || marks != ports.len() {
         return false;
     }
     distinct::are_distinct(ports, used)

@@ -5,7 +5,8 @@
 // the guest has room: that is its credit. What is to be said next is a set of pending indications.
 // What states, indications and turns are is in `csm`; what each call leaves is said in `rules`.
 // The record goes in by value and comes back; the ring's storage, the header and the buffers are
-// lent; the stream's answers and the clock are handed in.
+// lent; the stream's answers and the clock are handed in. The calls are functions and not methods:
+// the record's type stands in `rules`, and a method stands where its type does.
 #![tactic(auto)]
 
 mod event;
@@ -19,16 +20,15 @@ mod send;
 
 pub use event::{notify, notify_door};
 pub use look::{
-    EvSet, ExpirySeen, StateSeen, expiry, get_polled_evset, has_expired, has_pending_rx, kill,
-    state, will_expire,
+    EvSet, expiry, get_polled_evset, has_expired, has_pending_rx, kill, state, will_expire,
 };
 pub use offer::{
-    Asked, notify_offered, notify_offered_next, raw_offered, recv_asked, recv_door, send_door,
+    notify_offered, notify_offered_next, raw_offered, recv_asked, recv_door, send_door,
     send_offered, send_writes,
 };
 pub use open::{new_local_init, new_peer_init};
-pub use raw::{RawSent, raw_door, send_bytes_raw};
+pub use raw::{raw_door, send_bytes_raw};
 pub use receive::recv_pkt;
 pub use record::Outcome;
 pub use rules::{Settings, VsockConnection};
-pub use send::send_pkt;
+pub use send::{VsockPacket, send_pkt};

@@ -1,10 +1,13 @@
-// Opening a connection, from either side.
+// Opening a connection, from either side. Addresses and space are given one by one, as in the Rust:
+// a struct of them would be built for these two calls alone.
+#![tactic(auto, unfolding(defs::specs::Choice::when, defs::specs::Answer::when_done, rules::specs::Open::open_answer, rules::specs::Open::fresh_of, rules::specs::Open::zero_conn, rules::specs::Open::peer_init_of, rules::specs::Open::local_init_of))]
+
 ghost use Rattle.std.specs.Prelude.{◌≡◌};
-ghost use Rattle.defs.specs.Answer.{told};
-ghost use Rattle.rules.specs.Open.{Opening, ConnLeft, open_answer, fresh_of, zero_conn, PeerInitSays, LocalInitSays};
+ghost use Rattle.defs.specs.Answer.{told, when_done};
+ghost use Rattle.rules.specs.Open.{Opening, ConnLeft, open_answer, zero_conn, PeerInitSays, LocalInitSays};
 
 use crate::record::{Outcome, ok_settings};
-use csm::{ConnState, PendingRxSet, Timer};
+use csm::{ConnState, PendingRxSet};
 use defs::{Answer, limits};
 use rules::{Settings, VsockConnection};
 use txbuf::TxBuf;
@@ -21,32 +24,24 @@ pub fn new_peer_init(
 ) -> Outcome
     ensures { PeerInitSays (record { size = size; settings = settings; local_cid = local_cid; peer_cid = peer_cid; local_port = local_port; peer_port = peer_port; alloc = peer_buf_alloc }) (record { answer = told result.answer; conn = result.conn }) }
 {
-    let answer = open_answer(size, settings);
-    let Answer::Done = answer else {
-        return Outcome {
-            answer,
-            conn: zero(),
-        };
-    };
-    let due = PendingRxSet {
-        request: false,
-        response: true,
-        rst: false,
-        rw: false,
-        credit_update: false,
-    };
-    let conn = fresh(
-        size,
+    opened(VsockConnection {
         settings,
-        ConnState::PeerInit,
+        state: ConnState::PeerInit,
         local_cid,
         peer_cid,
         local_port,
         peer_port,
+        tx_buf: TxBuf {
+            size,
+            ..TxBuf::default()
+        },
         peer_buf_alloc,
-        due,
-    );
-    Outcome { answer, conn }
+        pending_rx: PendingRxSet {
+            response: true,
+            ..PendingRxSet::default()
+        },
+        ..VsockConnection::default()
+    })
 }
 
 // Opened by the host: a REQUEST is due, and the guest's space is not known yet.
@@ -60,31 +55,34 @@ pub fn new_local_init(
 ) -> Outcome
     ensures { LocalInitSays (record { size = size; settings = settings; local_cid = local_cid; peer_cid = peer_cid; local_port = local_port; peer_port = peer_port; alloc = 0 }) (record { answer = told result.answer; conn = result.conn }) }
 {
-    let answer = open_answer(size, settings);
-    let Answer::Done = answer else {
-        return Outcome {
-            answer,
-            conn: zero(),
-        };
-    };
-    let due = PendingRxSet {
-        request: true,
-        response: false,
-        rst: false,
-        rw: false,
-        credit_update: false,
-    };
-    let conn = fresh(
-        size,
+    opened(VsockConnection {
         settings,
-        ConnState::LocalInit,
+        state: ConnState::LocalInit,
         local_cid,
         peer_cid,
         local_port,
         peer_port,
-        0,
-        due,
-    );
+        tx_buf: TxBuf {
+            size,
+            ..TxBuf::default()
+        },
+        pending_rx: PendingRxSet {
+            request: true,
+            ..PendingRxSet::default()
+        },
+        ..VsockConnection::default()
+    })
+}
+
+// The record that was opened; the all-zero one, by answer 1, for settings out of range.
+fn opened(conn: VsockConnection) -> Outcome
+    ensures { ◌≡◌ {A = ConnLeft} (record { answer = told result.answer; conn = result.conn }) (record { answer = told (open_answer conn.tx_buf.size conn.settings); conn = when_done (open_answer conn.tx_buf.size conn.settings) conn zero_conn }) }
+{
+    let answer = open_answer(conn.tx_buf.size, conn.settings);
+    let conn = match answer {
+        Ok(()) => conn,
+        Err(_) => VsockConnection::default(),
+    };
     Outcome { answer, conn }
 }
 
@@ -92,61 +90,5 @@ pub fn new_local_init(
 fn open_answer(size: u32, settings: Settings) -> Answer
     ensures { result ≡ open_answer size settings }
 {
-    let ok = limits::is_ring_size(size) & ok_settings(settings, size);
-    defs::record_answer(ok)
-}
-
-// A connection with an empty ring, all counters 0 and no timer.
-fn fresh(
-    size: u32,
-    settings: Settings,
-    state: ConnState,
-    local_cid: u64,
-    peer_cid: u64,
-    local_port: u32,
-    peer_port: u32,
-    peer_buf_alloc: u32,
-    pending_rx: PendingRxSet,
-) -> VsockConnection
-    ensures { result ≡ fresh_of (record { size = size; settings = settings; local_cid = local_cid; peer_cid = peer_cid; local_port = local_port; peer_port = peer_port; alloc = peer_buf_alloc }) state pending_rx }
-{
-    VsockConnection {
-        settings,
-        state,
-        local_cid,
-        peer_cid,
-        local_port,
-        peer_port,
-        tx_buf: TxBuf {
-            size,
-            head: 0,
-            tail: 0,
-        },
-        fwd_cnt: 0,
-        peer_buf_alloc,
-        peer_fwd_cnt: 0,
-        rx_cnt: 0,
-        last_fwd_cnt_to_peer: 0,
-        pending_rx,
-        expiry: Timer::Unset,
-    }
-}
-
-// The all-zero record of a refused opening.
-fn zero() -> VsockConnection
-    ensures { result ≡ zero_conn }
-{
-    let none = Settings {
-        threshold: 0,
-        request_timeout: 0,
-        shutdown_timeout: 0,
-    };
-    let nothing = PendingRxSet {
-        request: false,
-        response: false,
-        rst: false,
-        rw: false,
-        credit_update: false,
-    };
-    fresh(0, none, ConnState::LocalInit, 0, 0, 0, 0, 0, nothing)
+    defs::record_answer(limits::is_ring_size(size) && ok_settings(settings, size))
 }

@@ -2,29 +2,32 @@
 //
 // From the record and the stream's answer the state machine gives one row; then record, header and
 // buffer are written from that row.
-ghost use Rattle.std.specs.Prelude.{◌≡◌, ◌≤◌};
+#![tactic(auto, unfolding(defs::specs::Choice::when, rules::specs::Record::with_state, rules::specs::Receive::received_of, rules::specs::Receive::spoken_of, rules::specs::Receive::header_of, rules::specs::Receive::recv_door))]
+
+ghost use Rattle.std.specs.Prelude.{◌≡◌, ◌≤◌, ◌==◌};
 ghost use Rattle.defs.specs.Answer.{told};
-ghost use Rattle.defs.specs.Choice.{when};
 ghost use Rattle.defs.specs.Limits.{max_packet, max_clock, max_timeout};
 ghost use Rattle.csm.specs.Row.{row_of};
 ghost use Rattle.csm.specs.Timer.{later};
-ghost use Rattle.rules.specs.Receive.{next_step, spoken_of, Receivable, received_of, header_of, reads_of, recv_door, recv_refusal, RecvIn, RecvLeft, RecvSays};
+ghost use Rattle.rules.specs.Record.{credit_of};
+ghost use Rattle.rules.specs.Receive.{next_step, Receivable, received_of, header_of, reads_of, recv_door, recv_refusal, RecvIn, RecvLeft, RecvSays};
 
-use crate::record::{Outcome, credit, is_sound, with_state};
-use csm::{ConnState, PendingRxSet, Row, Timer, remaining, state_after, timer_after};
-use defs::{Answer, ReadAnswer, limits};
+use crate::record::{Outcome, credit, is_sound};
+use csm::{Row, Timer, Turn};
+use defs::{Answer, StreamAnswer, limits};
 use packet::{VsockPacketHdr, uapi};
 use rules::VsockConnection;
 
-// Fills in the next packet for the guest. `buf` counts only where it is `present`; `read`
-// holds the bytes that the stream's answer brought.
+// Fills in the next packet for the guest. `buf` counts only where it is `present`, and is left
+// alone where not (01: absent differs from empty); `read` holds the bytes that the stream's answer
+// brought.
 pub fn recv_pkt(
     conn: VsockConnection,
     hdr: &mut [u8],
     present: bool,
     buf: &mut [u8],
     now_ms: u64,
-    answer: ReadAnswer,
+    answer: StreamAnswer,
     read: &[u8],
 ) -> Outcome
     ensures { RecvSays (record { conn = conn; hdr = hdr.old; present = present; buf = buf.old; clock = now_ms; answer = answer; read = read.now }) (record { answer = told result.answer; conn = result.conn; hdr = hdr.new; buf = buf.new }) }
@@ -38,19 +41,17 @@ pub fn recv_pkt(
         answer,
         read.len(),
     );
-    let Answer::Done = refusal else {
+    if refusal.is_err() {
         return Outcome {
             answer: refusal,
             conn,
         };
-    };
+    }
     let row = next_row(conn, present, answer);
-    let count = row.count;
-    let said = row.answer;
-    packet::encode(header(conn, row), hdr);
-    defs::copy(buf, &read[..count]);
+    let written = packet::encode(header(conn, row), hdr);
+    defs::copy(buf, &read[..row.count]);
     Outcome {
-        answer: said,
+        answer: written.and(row.answer),
         conn: received(conn, row, now_ms),
     }
 }
@@ -62,18 +63,20 @@ fn recv_refusal(
     present: bool,
     buf: usize,
     now_ms: u64,
-    answer: ReadAnswer,
+    answer: StreamAnswer,
     read: usize,
 ) -> Answer
     ensures { result ≡ recv_refusal conn hdr present buf now_ms answer read }
 {
-    let door = door_of(conn, hdr, present, buf, now_ms);
-    let ReadAnswer::Count(count) = answer else {
-        return door;
+    door_of(conn, hdr, present, buf, now_ms)?;
+    if !reads(conn, present) {
+        return Ok(());
+    }
+    let StreamAnswer::Count(count) = answer else {
+        return Ok(());
     };
-    let asked = defs::smaller(buf, credit(conn) as usize);
-    let over = reads(conn, present) & ((asked < count) | (read < count));
-    defs::lowest(door, defs::late(over, false))
+    let asked = buf.min(credit(conn) as usize);
+    defs::late(asked.min(read) < count, false)
 }
 
 pub(crate) fn door_of(
@@ -89,84 +92,63 @@ pub(crate) fn door_of(
         !is_sound(conn),
         !limits::is_header_length(hdr),
         !limits::is_clock(now_ms),
-        present & !limits::is_packet_length(buf),
+        present && !limits::is_packet_length(buf),
     )
+}
+
+// What a turn to speak goes by.
+fn turn(conn: VsockConnection, present: bool) -> Turn
+    ensures { result ≡ record { pending = conn.pending_rx; state = conn.state; no_credit = credit_of conn == 0; present = present } }
+{
+    Turn {
+        pending: conn.pending_rx,
+        state: conn.state,
+        no_credit: credit(conn) == 0,
+        present,
+    }
 }
 
 // Whether this turn reads from the stream.
 pub(crate) fn reads(conn: VsockConnection, present: bool) -> bool
     ensures { result ≡ reads_of conn present }
 {
-    let pending = conn.pending_rx;
-    let state = conn.state;
-    csm::turn_reads(pending, state, credit(conn) == 0, present)
+    turn(conn, present).reads()
 }
 
 // The row of what is said.
-fn next_row(conn: VsockConnection, present: bool, answer: ReadAnswer) -> Row
+fn next_row(conn: VsockConnection, present: bool, answer: StreamAnswer) -> Row
     ensures { result ≡ row_of (next_step conn present answer) }
 {
-    let pending = conn.pending_rx;
-    let state = conn.state;
-    csm::row_of(csm::turn_step(pending, state, credit(conn) == 0, present, answer))
+    turn(conn, present).step(answer).row()
 }
 
-// ---- what a row leaves
-
+// What a row leaves: so many bytes went to the guest; where our fwd_cnt counts as told, that is
+// kept.
 fn received(conn: VsockConnection, row: Row, now_ms: u64) -> VsockConnection
     requires { Receivable conn row now_ms }
     ensures { result ≡ received_of conn row now_ms }
 {
-    let state = conn.state;
-    let expiry = conn.expiry;
-    let pending = conn.pending_rx;
-    let after = row.after;
-    let arms = row.arms;
     let wait = later_by(now_ms, conn.settings.request_timeout);
     let linger = later_by(now_ms, conn.settings.shutdown_timeout);
-    let next = state_after(after, state);
-    let timer = timer_after(arms, expiry, wait, linger);
-    spoken(
-        conn,
-        row.count,
-        row.tells,
-        next,
-        remaining(pending, row.ends),
-        timer,
-    )
+    VsockConnection {
+        state: row.after.state_after(conn.state),
+        rx_cnt: conn.rx_cnt.wrapping_add(row.count as u32),
+        last_fwd_cnt_to_peer: if row.tells {
+            conn.fwd_cnt
+        } else {
+            conn.last_fwd_cnt_to_peer
+        },
+        pending_rx: conn.pending_rx.remaining(row.ends),
+        expiry: row.arms.timer_after(conn.expiry, wait, linger),
+        ..conn
+    }
 }
 
 pub(crate) fn later_by(now_ms: u64, wait: u64) -> Timer
     requires { (now_ms ≤ max_clock) × (wait ≤ max_timeout) }
     ensures { result ≡ later now_ms wait }
 {
-    Timer::At(now_ms + wait)
-}
-
-// So many bytes went to the guest; where our fwd_cnt counts as told, that is kept.
-fn spoken(
-    conn: VsockConnection,
-    count: usize,
-    tells: bool,
-    state: ConnState,
-    pending: PendingRxSet,
-    expiry: Timer,
-) -> VsockConnection
-    requires { count ≤ max_packet }
-    ensures { result ≡ spoken_of conn count tells state pending expiry }
-{
-    let told = last_told(tells, conn.fwd_cnt, conn.last_fwd_cnt_to_peer);
-    let sent = defs::wrapping_add(conn.rx_cnt, count as u32);
-    let mut next = with_state(conn, state, expiry, pending);
-    next.rx_cnt = sent;
-    next.last_fwd_cnt_to_peer = told;
-    next
-}
-
-fn last_told(tells: bool, count: u32, before: u32) -> u32
-    ensures { result ≡ when tells count before }
-{
-    if tells { count } else { before }
+    Some(now_ms + wait)
 }
 
 // The header, initialised with our addresses, size and count, then the row's op, flags and len.

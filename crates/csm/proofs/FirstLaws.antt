@@ -5,9 +5,9 @@ use mathlib.Core.List.{[], ◌∷◌}
 use lib.Dec.{eqb}
 use Rattle.defs.specs.Choice.{when}
 use Rattle.defs.specs.Promises.{Exactly}
-use Rattle.defs.specs.Stream.{read_blocks}
-use Rattle.defs.specs.declared.stream.ReadAnswer.{ReadAnswer}
-use Rattle.defs.specs.declared.stream.ReadAnswer.TheVariants.{Count, WouldBlock, Failed}
+use Rattle.defs.specs.Stream.{blocks}
+use Rattle.defs.specs.declared.stream.StreamAnswer.{StreamAnswer}
+use Rattle.defs.specs.declared.stream.StreamAnswer.TheVariants.{Count, WouldBlock, Failed}
 use Rattle.defs.proofs.Basics.{never}
 use Rattle.defs.proofs.MeansLaws.{as_is, not_as_is, not_means, and_means, or_means}
 use Rattle.defs.proofs.LadderLaws.{by_turn, row}
@@ -26,7 +26,7 @@ use Rattle.csm.proofs.TurnLaws.{has_nothing, lacks_buffer, turn_number}
 flat : {X A B C : Type 0} → Exactly X ((A × B) × C) → Exactly X (A × B × C)
 flat m = (λ x. let p = m.0 x in (p.0.0, p.0.1, p.1), λ q. m.1 ((q.0, q.1), q.2))
 
-blocks_means : (a : ReadAnswer) → Exactly (read_blocks a ≡ true) (a ≡ WouldBlock)
+blocks_means : (a : StreamAnswer) → Exactly (blocks a ≡ true) (a ≡ WouldBlock)
 blocks_means (Count n) = (λ e. absurd (never e), λ e. cc)
 blocks_means WouldBlock = (λ e. refl, λ e. refl)
 blocks_means Failed = (λ e. absurd (never e), λ e. cc)
@@ -57,7 +57,7 @@ module _ (t : Turn) where
   abbrev update_next : Bool
   update_next =
       not t.pending.rst && not t.pending.response && not t.pending.request
-      && (not t.pending.rw || turn_reads t.pending t.state t.no_credit t.present && read_blocks t.answer)
+      && (not t.pending.rw || turn_reads t.pending t.state t.no_credit t.present && blocks t.answer)
 
   update_means : Exactly (update_next ≡ true) (UpdateNext t)
   update_means =
@@ -74,11 +74,11 @@ turn_answers t =
 
 -- ---- our count is told
 
-by_tells : (r s q w up no_credit present u : Bool) (a : ReadAnswer)
+by_tells : (r s q w up no_credit present u : Bool) (a : StreamAnswer)
     → (row_of (when r Rst (when s Response (when q Request (when w (data_step up no_credit present (read_step a (update_step u))) (update_step u)))))).tells
     ≡ not r && not s && not q && w && up && no_credit
-    || (not r && not s && not q && w && up && not no_credit && present && not (read_blocks a)
-    || not r && not s && not q && (not w || not r && not s && not q && w && up && not no_credit && present && read_blocks a) && u)
+    || (not r && not s && not q && w && up && not no_credit && present && not (blocks a)
+    || not r && not s && not q && (not w || not r && not s && not q && w && up && not no_credit && present && blocks a) && u)
 unfolding when
 by_tells true s q w up no_credit present u a = refl
 by_tells false true q w up no_credit present u a = refl
@@ -108,7 +108,7 @@ last_told_moves t =
 
 -- ---- a turn that does not read
 
-unread : (r s q w up no_credit present u : Bool) (a b : ReadAnswer) → not r && not s && not q && w && up && not no_credit && present ≡ false
+unread : (r s q w up no_credit present u : Bool) (a b : StreamAnswer) → not r && not s && not q && w && up && not no_credit && present ≡ false
     → when r Rst (when s Response (when q Request (when w (data_step up no_credit present (read_step a (update_step u))) (update_step u))))
     ≡ when r Rst (when s Response (when q Request (when w (data_step up no_credit present (read_step b (update_step u))) (update_step u))))
 unfolding when
@@ -122,7 +122,7 @@ unread false false false true true false false u a b e = refl
 unread false false false true true false true u a b e = absurd (never (sym e))
 
 -- says the same whatever the stream answers
-pub step_unread : (p : PendingRxSet) (s : ConnState) (no_credit present : Bool) (a b : ReadAnswer) → turn_reads p s no_credit present ≡ false
+pub step_unread : (p : PendingRxSet) (s : ConnState) (no_credit present : Bool) (a b : StreamAnswer) → turn_reads p s no_credit present ≡ false
     → turn_step p s no_credit present a ≡ turn_step p s no_credit present b
 unfolding turn_step turn_reads
 step_unread p s no_credit present a b e = unread p.rst p.response p.request p.rw (gives s) no_credit present p.credit_update a b e

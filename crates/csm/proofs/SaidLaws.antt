@@ -9,8 +9,8 @@ use borrow.Author.Tests.{not-true}
 use lib.Dec.{eqb}
 use Rattle.defs.specs.Answer.{told}
 use Rattle.defs.specs.Choice.{when}
-use Rattle.defs.specs.declared.stream.ReadAnswer.{ReadAnswer}
-use Rattle.defs.specs.declared.stream.ReadAnswer.TheVariants.{Count, WouldBlock, Failed}
+use Rattle.defs.specs.declared.stream.StreamAnswer.{StreamAnswer}
+use Rattle.defs.specs.declared.stream.StreamAnswer.TheVariants.{Count, WouldBlock, Failed}
 use Rattle.defs.proofs.Basics.{true_or_false, both, and_true, and_false}
 use Rattle.defs.proofs.LadderLaws.{first_in_turn}
 use Rattle.csm.specs.Pending.{none, left_of}
@@ -23,7 +23,7 @@ use Rattle.csm.specs.declared.pending.PendingRxSet.{PendingRxSet}
 use Rattle.csm.specs.declared.turn.RxStep.{RxStep}
 use Rattle.csm.specs.declared.turn.RxStep.TheVariants.{Rst, Response, Request, OutOfState, AskCredit, NoBuffer, Data, Close, Fail, Update, Nothing}
 use Rattle.csm.specs.declared.state.ConnState.{ConnState}
-use Rattle.csm.specs.declared.timer.Timer.{Timer}
+use Rattle.csm.specs.Timer.{Timer}
 use Rattle.csm.proofs.MeansLaws.{every_state_means}
 use Rattle.csm.proofs.TurnLaws.{has_nothing, lacks_buffer, turn_number}
 
@@ -103,7 +103,7 @@ seven_and_eight t =
 -- ---- 01's order
 
 -- a turn of these indications: Rst, Response, Request, Rw, CreditUpdate
-abbrev turn : Bool → Bool → Bool → Bool → Bool → ConnState → Bool → Bool → ReadAnswer → Timer → Timer → Timer → Turn
+abbrev turn : Bool → Bool → Bool → Bool → Bool → ConnState → Bool → Bool → StreamAnswer → Timer → Timer → Timer → Turn
 turn r s q w u state no_credit present a expiry wait linger = record {
   pending = record { request = q; response = s; rst = r; rw = w; credit_update = u };
   state = state;
@@ -116,11 +116,11 @@ turn r s q w u state no_credit present a expiry wait linger = record {
 }
 
 module _ (expiry wait linger : Timer) where
-  abbrev Says : Bool → Bool → Bool → Bool → Bool → ConnState → Bool → Bool → ReadAnswer → Type 0
+  abbrev Says : Bool → Bool → Bool → Bool → Bool → ConnState → Bool → Bool → StreamAnswer → Type 0
   Says r s q w u state no_credit present a = let t : Turn = turn r s q w u state no_credit present a expiry wait linger in said_by t ≡ said_now t
 
   -- Rw in a state that serves data
-  served : (state : ConnState) → gives state ≡ true → serves_data state ≡ true → (u no_credit present : Bool) (a : ReadAnswer) → Says false false false true u state no_credit present a
+  served : (state : ConnState) → gives state ≡ true → serves_data state ≡ true → (u no_credit present : Bool) (a : StreamAnswer) → Says false false false true u state no_credit present a
   unfolding turn_step when
   served state g h u true present a = simp (g, h)
   served state g h u false false a = simp (g, h)
@@ -130,11 +130,11 @@ module _ (expiry wait linger : Timer) where
   served state g h u false true Failed = simp (g, h)
 
   -- and in one that does not
-  unserved : (state : ConnState) → gives state ≡ false → serves_data state ≡ false → (u no_credit present : Bool) (a : ReadAnswer) → Says false false false true u state no_credit present a
+  unserved : (state : ConnState) → gives state ≡ false → serves_data state ≡ false → (u no_credit present : Bool) (a : StreamAnswer) → Says false false false true u state no_credit present a
   unfolding turn_step when
   unserved state g h u no_credit present a = simp (g, h)
 
-  says : (r s q w u : Bool) (state : ConnState) (no_credit present : Bool) (a : ReadAnswer) → Says r s q w u state no_credit present a
+  says : (r s q w u : Bool) (state : ConnState) (no_credit present : Bool) (a : StreamAnswer) → Says r s q w u state no_credit present a
   unfolding turn_step when
   says true s q w u state no_credit present a = refl
   says false true q w u state no_credit present a = refl

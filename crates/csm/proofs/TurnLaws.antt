@@ -7,9 +7,9 @@ use native.Mathlib.Omega.{arith}
 use lib.Dec.{eqb}
 use Rattle.defs.specs.Choice.{when}
 use Rattle.defs.specs.Answer.{told}
-use Rattle.defs.specs.Stream.{read_counted, read_blocks}
-use Rattle.defs.specs.declared.stream.ReadAnswer.{ReadAnswer}
-use Rattle.defs.specs.declared.stream.ReadAnswer.TheVariants.{Count, WouldBlock, Failed}
+use Rattle.defs.specs.Stream.{counted, blocks}
+use Rattle.defs.specs.declared.stream.StreamAnswer.{StreamAnswer}
+use Rattle.defs.specs.declared.stream.StreamAnswer.TheVariants.{Count, WouldBlock, Failed}
 use Rattle.defs.proofs.Basics.{and_false}
 use Rattle.defs.proofs.ChoiceLaws.{when_true, when_false}
 use Rattle.defs.proofs.LadderLaws.{first_in_turn}
@@ -27,18 +27,18 @@ use Rattle.csm.specs.declared.turn.RxStep.TheVariants.{Rst, Response, Request, D
 -- ---- what is answered
 
 -- 7: no indication is left but one for data that the stream has not got yet
-unfoldable pub has_nothing : PendingRxSet → ConnState → Bool → Bool → ReadAnswer → Bool
+unfoldable pub has_nothing : PendingRxSet → ConnState → Bool → Bool → StreamAnswer → Bool
 has_nothing p state no_credit present a =
-    not p.rst && not p.response && not p.request && (not p.rw || turn_reads p state no_credit present && read_blocks a) && not p.credit_update
+    not p.rst && not p.response && not p.request && (not p.rw || turn_reads p state no_credit present && blocks a) && not p.credit_update
 
 -- 8: data due, credit not 0, no buffer
 unfoldable pub lacks_buffer : PendingRxSet → ConnState → Bool → Bool → Bool
 lacks_buffer p state no_credit present = data_first p && gives state && not no_credit && not present
 
-by_answer : (r s q w up no_credit present u : Bool) (a : ReadAnswer)
+by_answer : (r s q w up no_credit present u : Bool) (a : StreamAnswer)
     → (told (row_of (when r Rst (when s Response (when q Request (when w (data_step up no_credit present (read_step a (update_step u))) (update_step u)))))).answer).number
     ≡ first_in_turn
-    ((7, not r && not s && not q && (not w || not r && not s && not q && w && up && not no_credit && present && read_blocks a) && not u)
+    ((7, not r && not s && not q && (not w || not r && not s && not q && w && up && not no_credit && present && blocks a) && not u)
     ∷ (8, not r && not s && not q && w && up && not no_credit && not present)
     ∷ [])
 unfolding when
@@ -59,7 +59,7 @@ by_answer false false false true true false true true WouldBlock = refl
 by_answer false false false true true false true false WouldBlock = refl
 by_answer false false false true true false true u Failed = refl
 
-pub turn_number : (p : PendingRxSet) (s : ConnState) (no_credit present : Bool) (a : ReadAnswer)
+pub turn_number : (p : PendingRxSet) (s : ConnState) (no_credit present : Bool) (a : StreamAnswer)
     → (told (row_of (turn_step p s no_credit present a)).answer).number
     ≡ first_in_turn ((7, has_nothing p s no_credit present a) ∷ (8, lacks_buffer p s no_credit present) ∷ [])
 unfolding turn_step turn_reads has_nothing lacks_buffer
@@ -77,14 +77,14 @@ unfolding when
 none true = zero-le
 none false = zero-le
 
-by_read : (a : ReadAnswer) (u : Bool) → (row_of (read_step a (update_step u))).count ≤ read_counted a
+by_read : (a : StreamAnswer) (u : Bool) → (row_of (read_step a (update_step u))).count ≤ counted a
 by_read (Count n) u = counts (eqb n 0) n
 by_read WouldBlock u = none u
 by_read Failed u = zero-le
 
-by_step : (r s q w up no_credit present u : Bool) (a : ReadAnswer)
+by_step : (r s q w up no_credit present u : Bool) (a : StreamAnswer)
     → (row_of (when r Rst (when s Response (when q Request (when w (data_step up no_credit present (read_step a (update_step u))) (update_step u)))))).count
-    ≤ when (not r && not s && not q && w && up && not no_credit && present) (read_counted a) 0
+    ≤ when (not r && not s && not q && w && up && not no_credit && present) (counted a) 0
 unfolding when
 by_step true s q w up no_credit present u a = zero-le
 by_step false true q w up no_credit present u a = zero-le
@@ -111,7 +111,7 @@ pub data NotOpening (up : Bool) : After → Type 0 where
   same_state : NotOpening up Same
   closes_state : up ≡ true → NotOpening up Closes
 
-no_opening : (request w up no_credit present u : Bool) (a : ReadAnswer)
+no_opening : (request w up no_credit present u : Bool) (a : StreamAnswer)
     → NotOpening up (row_of (when request Request (when w (data_step up no_credit present (read_step a (update_step u))) (update_step u)))).after
 unfolding when
 no_opening true w up no_credit present u a = same_state
@@ -129,11 +129,11 @@ no_opening false true true false true true WouldBlock = same_state
 no_opening false true true false true false WouldBlock = same_state
 no_opening false true true false true u Failed = same_state
 
-pub reset_stays : (p : PendingRxSet) (s : ConnState) (no_credit present : Bool) (a : ReadAnswer) → p.rst ≡ true → (row_of (turn_step p s no_credit present a)).after ≡ Same
+pub reset_stays : (p : PendingRxSet) (s : ConnState) (no_credit present : Bool) (a : StreamAnswer) → p.rst ≡ true → (row_of (turn_step p s no_credit present a)).after ≡ Same
 unfolding turn_step
 reset_stays p s no_credit present a t = ap (λ (x : RxStep). (row_of x).after) (when_true Rst _ _ t)
 
-pub response_alone_opens : (p : PendingRxSet) (s : ConnState) (no_credit present : Bool) (a : ReadAnswer) → p.rst ≡ false → p.response ≡ false
+pub response_alone_opens : (p : PendingRxSet) (s : ConnState) (no_credit present : Bool) (a : StreamAnswer) → p.rst ≡ false → p.response ≡ false
     → NotOpening (gives s) (row_of (turn_step p s no_credit present a)).after
 unfolding turn_step
 response_alone_opens p s no_credit present a t u =

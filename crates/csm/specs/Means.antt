@@ -1,13 +1,11 @@
 -- What states and timers mean, said a second time: lists of states in 01's words, and times as numbers, apart from the tables that the code follows.
 -- Assumes nothing.
-use Rattle.std.specs.Prelude.{ℕ, ◌≤◌, ◌<◌, ◌≡◌, Bool, true, false}
+use Rattle.std.specs.Prelude.{ℕ, ◌≤◌, ◌<◌, ◌≡◌, Bool, true, false, Some, None}
 use Rattle.defs.specs.Promises.{Exactly}
 use Rattle.csm.specs.State.{polls, gives, takes, asks, both_off}
-use Rattle.csm.specs.Timer.{is_after, is_due, is_set, shut_arms}
+use Rattle.csm.specs.Timer.{Timer, is_after, is_due, is_set, shut_arms}
 use Rattle.csm.specs.declared.state.ConnState.{ConnState}
 use Rattle.csm.specs.declared.state.ConnState.TheVariants.{LocalInit, PeerInit, Established, LocalClosed, PeerClosed, Killed}
-use Rattle.csm.specs.declared.timer.Timer.{Timer}
-use Rattle.csm.specs.declared.timer.Timer.TheVariants.{Unset, At}
 
 -- the states that take data: Established and PeerClosed(any, no send-off)
 abbrev pub takes_data : ConnState → Bool
@@ -72,9 +70,9 @@ EveryStateMeans = (s : ConnState) → StatesMean s
 
 -- 01: `will_expire` is time > now, `has_expired` time <= now, of a timer that is set; 2026-08: one that is set runs, at any clock
 pub record TimersMean (t : Timer) (clock : ℕ) : Type 0 where
-  pub after : Exactly (is_after t clock ≡ true) ((time : ℕ) × (t ≡ At time) × (clock < time))
-  pub due : Exactly (is_due t clock ≡ true) ((time : ℕ) × (t ≡ At time) × (time ≤ clock))
-  pub runs : Exactly (is_set t ≡ true) ((time : ℕ) × (t ≡ At time))
+  pub after : Exactly (is_after t clock ≡ true) ((time : ℕ) × (t ≡ Some time) × (clock < time))
+  pub due : Exactly (is_due t clock ≡ true) ((time : ℕ) × (t ≡ Some time) × (time ≤ clock))
+  pub runs : Exactly (is_set t ≡ true) ((time : ℕ) × (t ≡ Some time))
 
 abbrev pub EveryTimerMeans : Type 0
 EveryTimerMeans = (t : Timer) (clock : ℕ) → TimersMean t clock
@@ -84,4 +82,4 @@ EveryTimerMeans = (t : Timer) (clock : ℕ) → TimersMean t clock
 abbrev pub EveryShutdownMeans : Type 0
 EveryShutdownMeans =
     (before after : ConnState) (empty : Bool) (t : Timer)
-    → Exactly (shut_arms before after empty t ≡ true) ((after ≡ PeerClosed true true) × (before ≡ PeerClosed true true → ⊥) × (empty ≡ false) × (t ≡ Unset))
+    → Exactly (shut_arms before after empty t ≡ true) ((after ≡ PeerClosed true true) × (before ≡ PeerClosed true true → ⊥) × (empty ≡ false) × (t ≡ None))

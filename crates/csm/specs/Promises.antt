@@ -2,8 +2,8 @@
 use Rattle.std.specs.Prelude.{◌≤◌, ◌≡◌, Bool, true, [], ◌∷◌}
 use Rattle.defs.specs.Choice.{when}
 use Rattle.defs.specs.Promises.{Exactly, AnswersInTurn}
-use Rattle.defs.specs.Stream.{read_counted}
-use Rattle.defs.specs.declared.stream.ReadAnswer.{ReadAnswer}
+use Rattle.defs.specs.Stream.{counted}
+use Rattle.defs.specs.declared.stream.StreamAnswer.{StreamAnswer}
 use Rattle.csm.specs.State.{shut_by, Grown}
 use Rattle.csm.specs.Turn.{turn_step, turn_reads}
 use Rattle.csm.specs.Row.{row_of}
@@ -15,8 +15,8 @@ use Rattle.csm.specs.declared.state.ConnState.TheVariants.{PeerClosed}
 -- no more data is said than was read, and none where the turn does not read
 abbrev pub SaysWhatWasRead : Type 0
 SaysWhatWasRead =
-    (p : PendingRxSet) (s : ConnState) (no_credit present : Bool) (a : ReadAnswer)
-    → (row_of (turn_step p s no_credit present a)).count ≤ when (turn_reads p s no_credit present) (read_counted a) 0
+    (p : PendingRxSet) (s : ConnState) (no_credit present : Bool) (a : StreamAnswer)
+    → (row_of (turn_step p s no_credit present a)).count ≤ when (turn_reads p s no_credit present) (counted a) 0
 
 -- 01's table, 7 and 8: a turn answers them exactly when it has nothing to say, and when data is due, credit isn't 0 and there is no buffer; else it is done
 abbrev pub TurnAnswers : Type 0

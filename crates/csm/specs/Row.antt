@@ -1,9 +1,9 @@
 -- The table of the steps (01, `recv_pkt`), and what a row leaves of state and timer. Assumes nothing.
-use Rattle.std.specs.Prelude.{ℕ, ◌+◌, Bool, true, false}
-use Rattle.defs.specs.declared.answer.Answer.{Answer}
-use Rattle.defs.specs.declared.answer.Answer.TheVariants.{Done, NoData, PktBufMissing}
+use Rattle.std.specs.Prelude.{ℕ, ◌+◌, Bool, true, false, Err}
+use Rattle.defs.specs.Answer.{Answer, done}
+use Rattle.defs.specs.declared.answer.Refusal.TheVariants.{NoData, PktBufMissing}
 use Rattle.packet.specs.Uapi.{op_request, op_response, op_rst, op_shutdown, op_rw, op_credit_update, op_credit_request, flag_shutdown_rcv, flag_shutdown_send}
-use Rattle.csm.specs.declared.timer.Timer.{Timer}
+use Rattle.csm.specs.Timer.{Timer}
 use Rattle.csm.specs.declared.state.ConnState.{ConnState}
 use Rattle.csm.specs.declared.state.ConnState.TheVariants.{Established, LocalClosed}
 use Rattle.csm.specs.declared.turn.RxStep.{RxStep}
@@ -33,21 +33,21 @@ plain_row answer op tells ends = is answer op 0 0 tells ends Same Keep
 
 -- one that moves state or timer; our fwd_cnt does not count as told
 abbrev pub turning_row : ℕ → After → Arms → Row
-turning_row op after arms = is Done op 0 0 false false after arms
+turning_row op after arms = is done op 0 0 false false after arms
 
 -- THE TABLE: answer, op, (flags, len,) whether last-told is updated, whether a pending update ends, (state, timer)
 abbrev pub row_of : RxStep → Row
-row_of Rst = plain_row Done op_rst false false
+row_of Rst = plain_row done op_rst false false
 row_of Response = turning_row op_response Opens Keep
 row_of Request = turning_row op_request Same Wait
-row_of OutOfState = plain_row Done op_rst false false
-row_of AskCredit = plain_row Done op_credit_request true false
-row_of NoBuffer = plain_row PktBufMissing 0 false false
-row_of (Data n) = is Done op_rw 0 n true false Same Keep
-row_of Close = is Done op_shutdown (flag_shutdown_rcv + flag_shutdown_send) 0 true false Closes Linger
-row_of Fail = plain_row Done op_rst true false
-row_of Update = plain_row Done op_credit_update true true
-row_of Nothing = plain_row NoData 0 false true
+row_of OutOfState = plain_row done op_rst false false
+row_of AskCredit = plain_row done op_credit_request true false
+row_of NoBuffer = plain_row (Err PktBufMissing) 0 false false
+row_of (Data n) = is done op_rw 0 n true false Same Keep
+row_of Close = is done op_shutdown (flag_shutdown_rcv + flag_shutdown_send) 0 true false Closes Linger
+row_of Fail = plain_row done op_rst true false
+row_of Update = plain_row done op_credit_update true true
+row_of Nothing = plain_row (Err NoData) 0 false true
 
 -- what becomes of the state
 abbrev pub afterwards : After → ConnState → ConnState

@@ -2,9 +2,9 @@
 use Rattle.std.specs.Prelude.{ℕ, suc, ◌≡◌, ◌⊎◌, Bool, true, false, not, ◌&&◌, ◌||◌, List, [], ◌∷◌, eqb}
 use Rattle.defs.specs.Choice.{when}
 use Rattle.defs.specs.Answer.{Told, told}
-use Rattle.defs.specs.Stream.{read_counted}
-use Rattle.defs.specs.declared.stream.ReadAnswer.{ReadAnswer}
-use Rattle.defs.specs.declared.stream.ReadAnswer.TheVariants.{Count, WouldBlock, Failed}
+use Rattle.defs.specs.Stream.{counted}
+use Rattle.defs.specs.declared.stream.StreamAnswer.{StreamAnswer}
+use Rattle.defs.specs.declared.stream.StreamAnswer.TheVariants.{Count, WouldBlock, Failed}
 use Rattle.packet.specs.Uapi.{op_request, op_response, op_rst, op_shutdown, op_rw, op_credit_update, op_credit_request}
 use Rattle.csm.specs.Pending.{none, reset_only, left_of}
 use Rattle.csm.specs.Means.{serves_data}
@@ -14,25 +14,25 @@ use Rattle.csm.specs.declared.pending.PendingRxSet.{PendingRxSet}
 use Rattle.csm.specs.declared.row.Row.{Row}
 use Rattle.csm.specs.declared.state.ConnState.{ConnState}
 use Rattle.csm.specs.declared.state.ConnState.TheVariants.{Established, LocalClosed}
-use Rattle.csm.specs.declared.timer.Timer.{Timer}
+use Rattle.csm.specs.Timer.{Timer}
 
 -- the three answers to a read, and the end of the stream among them
-abbrev pub brings : ReadAnswer → Bool
+abbrev pub brings : StreamAnswer → Bool
 brings (Count n) = not (eqb n 0)
 brings WouldBlock = false
 brings Failed = false
 
-abbrev pub ends : ReadAnswer → Bool
+abbrev pub ends : StreamAnswer → Bool
 ends (Count n) = eqb n 0
 ends WouldBlock = false
 ends Failed = false
 
-abbrev pub fails : ReadAnswer → Bool
+abbrev pub fails : StreamAnswer → Bool
 fails (Count n) = false
 fails WouldBlock = false
 fails Failed = true
 
-abbrev pub waits : ReadAnswer → Bool
+abbrev pub waits : StreamAnswer → Bool
 waits (Count n) = false
 waits WouldBlock = true
 waits Failed = false
@@ -43,7 +43,7 @@ pub record Turn : Type 0 where
   pub state : ConnState
   pub no_credit : Bool
   pub present : Bool
-  pub answer : ReadAnswer
+  pub answer : StreamAnswer
   pub expiry : Timer
   pub wait : Timer
   pub linger : Timer
@@ -117,7 +117,7 @@ pub record Said : Type 0 where
 abbrev pub said_now : Turn → Said
 said_now t = record {
   op = op_due t;
-  len = when (eqb (op_due t) op_rw) (read_counted t.answer) 0;
+  len = when (eqb (op_due t) op_rw) (counted t.answer) 0;
   flags = when (eqb (op_due t) op_shutdown) 3 0;
   pending = less_used t;
   tells = tells_now t;

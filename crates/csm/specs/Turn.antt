@@ -1,8 +1,8 @@
 -- What a turn to speak says (01, `recv_pkt`): the first that is pending, and for data what state, credit, buffer and stream make of it. Assumes nothing.
 use Rattle.std.specs.Prelude.{Bool, not, ◌&&◌, eqb}
 use Rattle.defs.specs.Choice.{when}
-use Rattle.defs.specs.declared.stream.ReadAnswer.{ReadAnswer}
-use Rattle.defs.specs.declared.stream.ReadAnswer.TheVariants.{Count, WouldBlock, Failed}
+use Rattle.defs.specs.declared.stream.StreamAnswer.{StreamAnswer}
+use Rattle.defs.specs.declared.stream.StreamAnswer.TheVariants.{Count, WouldBlock, Failed}
 use Rattle.csm.specs.State.{gives}
 use Rattle.csm.specs.declared.pending.PendingRxSet.{PendingRxSet}
 use Rattle.csm.specs.declared.state.ConnState.{ConnState}
@@ -10,7 +10,7 @@ use Rattle.csm.specs.declared.turn.RxStep.{RxStep}
 use Rattle.csm.specs.declared.turn.RxStep.TheVariants.{Rst, Response, Request, OutOfState, AskCredit, NoBuffer, Data, Close, Fail, Update, Nothing}
 
 -- a positive count is data, 0 closes, a would-block falls through, a failure fails
-abbrev pub read_step : ReadAnswer → RxStep → RxStep
+abbrev pub read_step : StreamAnswer → RxStep → RxStep
 read_step (Count n) else = when (eqb n 0) Close (Data n)
 read_step WouldBlock else = else
 read_step Failed else = Fail
@@ -28,7 +28,7 @@ abbrev pub rx_step : PendingRxSet → RxStep → RxStep → RxStep
 rx_step p on_rw update = when p.rst Rst (when p.response Response (when p.request Request (when p.rw on_rw update)))
 
 -- by what is pending, the state, whether the guest's credit is 0, whether there is a buffer, and the stream's answer
-unfoldable pub turn_step : PendingRxSet → ConnState → Bool → Bool → ReadAnswer → RxStep
+unfoldable pub turn_step : PendingRxSet → ConnState → Bool → Bool → StreamAnswer → RxStep
 turn_step p state no_credit present a =
     let update = update_step p.credit_update in
     rx_step p (data_step (gives state) no_credit present (read_step a update)) update

@@ -9,10 +9,8 @@ mod state;
 mod timer;
 mod turn;
 
-pub use pending::{PendingRxSet, is_pending, mark, remaining};
-pub use row::{After, Arms, Row, row_of, state_after, timer_after};
-pub use state::{
-    ConnState, asks, both_off, is_local_init, is_recv_off, is_send_off, polls, shut, takes,
-};
+pub use pending::PendingRxSet;
+pub use row::{After, Arms, Row};
+pub use state::{ConnState, is_recv_off, is_send_off};
 pub use timer::{Timer, is_after, is_due, shut_arms};
-pub use turn::{RxStep, turn_reads, turn_step};
+pub use turn::{RxStep, Turn};

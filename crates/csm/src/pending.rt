@@ -1,8 +1,11 @@
 // The packets that are to be handed to the guest.
+#![tactic(auto, unfolding(crate::specs::Pending::is_pending))]
+
 ghost use Rattle.std.specs.Prelude.{◌≡◌};
 ghost use Rattle.csm.specs.Pending.{is_pending, marked, left_of};
 
-#[derive(Clone, Copy)]
+// By `default` none is pending.
+#[derive(Clone, Copy, Debug, Default, PartialEq, Eq)]
 pub struct PendingRxSet {
     pub request: bool,
     pub response: bool,
@@ -11,35 +14,36 @@ pub struct PendingRxSet {
     pub credit_update: bool,
 }
 
-// Any is pending.
-pub fn is_pending(pending: PendingRxSet) -> bool
-    ensures { result ≡ is_pending pending }
-{
-    pending.request | pending.response | pending.rst | pending.rw | pending.credit_update
-}
-
-// With Rst, Rw and CreditUpdate set besides, each where it is asked for.
-pub fn mark(pending: PendingRxSet, rst: bool, rw: bool, update: bool) -> PendingRxSet
-    ensures { result ≡ marked pending rst rw update }
-{
-    PendingRxSet {
-        request: pending.request,
-        response: pending.response,
-        rst: pending.rst | rst,
-        rw: pending.rw | rw,
-        credit_update: pending.credit_update | update,
+impl PendingRxSet {
+    // Any is pending.
+    pub fn is_pending(self) -> bool
+        ensures { result ≡ is_pending self }
+    {
+        self.request || self.response || self.rst || self.rw || self.credit_update
     }
-}
 
-// After a turn to speak: the indication that was used is gone; those behind it stay.
-pub fn remaining(pending: PendingRxSet, ends: bool) -> PendingRxSet
-    ensures { result ≡ left_of pending ends }
-{
-    PendingRxSet {
-        request: pending.request & (pending.rst | pending.response),
-        response: pending.response & pending.rst,
-        rst: false,
-        rw: pending.rw & (pending.rst | pending.response | pending.request),
-        credit_update: pending.credit_update & !ends,
+    // With Rst, Rw and CreditUpdate set besides, each where it is asked for.
+    pub fn mark(self, rst: bool, rw: bool, update: bool) -> PendingRxSet
+        ensures { result ≡ marked self rst rw update }
+    {
+        PendingRxSet {
+            rst: self.rst || rst,
+            rw: self.rw || rw,
+            credit_update: self.credit_update || update,
+            ..self
+        }
+    }
+
+    // After a turn to speak: the indication that was used is gone; those behind it stay.
+    pub fn remaining(self, ends: bool) -> PendingRxSet
+        ensures { result ≡ left_of self ends }
+    {
+        PendingRxSet {
+            request: self.request && (self.rst || self.response),
+            response: self.response && self.rst,
+            rst: false,
+            rw: self.rw && (self.rst || self.response || self.request),
+            credit_update: self.credit_update && !ends,
+        }
     }
 }

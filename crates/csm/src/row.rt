@@ -5,19 +5,32 @@ ghost use Rattle.csm.specs.Row.{plain_row, turning_row, row_of, afterwards, arme
 use crate::state::ConnState;
 use crate::timer::Timer;
 use crate::turn::RxStep;
-use defs::Answer;
+use defs::{Answer, Refusal};
 use packet::uapi;
 
 // What becomes of the state.
-#[derive(Clone, Copy)]
+#[derive(Clone, Copy, Debug, PartialEq, Eq)]
 pub enum After {
     Same,
     Opens,
     Closes,
 }
 
+impl After {
+    // The state after a row.
+    pub fn state_after(self, state: ConnState) -> ConnState
+        ensures { result ≡ afterwards self state }
+    {
+        match self {
+            After::Same => state,
+            After::Opens => ConnState::Established,
+            After::Closes => ConnState::LocalClosed,
+        }
+    }
+}
+
 // What becomes of the timer.
-#[derive(Clone, Copy)]
+#[derive(Clone, Copy, Debug, PartialEq, Eq)]
 pub enum Arms {
     Keep,
     // The guest has the request's time to answer.
@@ -26,9 +39,23 @@ pub enum Arms {
     Linger,
 }
 
+impl Arms {
+    // The timer after a row: `wait` where a request goes out, `linger` where the stream has ended.
+    pub fn timer_after(self, expiry: Timer, wait: Timer, linger: Timer) -> Timer
+        ensures { result ≡ armed self expiry wait linger }
+    {
+        match self {
+            Arms::Keep => expiry,
+            Arms::Wait => wait,
+            Arms::Linger => linger,
+        }
+    }
+}
+
 // A step's answer, the header's op, flags and len, whether our fwd_cnt counts as told
 // to the guest with it, whether a pending update ends with it, and what becomes of state and timer.
-#[derive(Clone, Copy)]
+// The answer stands beside the rest: by 7 and 8 too a header is written and the record changes.
+#[derive(Clone, Copy, Debug, PartialEq, Eq)]
 pub struct Row {
     pub answer: Answer,
     pub op: u16,
@@ -40,98 +67,72 @@ pub struct Row {
     pub arms: Arms,
 }
 
-// The row of a step.
-pub fn row_of(step: RxStep) -> Row
-    ensures { result ≡ row_of step }
-{
-    match step {
-        RxStep::Rst => plain(Answer::Done, uapi::VSOCK_OP_RST, false, false),
-        RxStep::Response => turning(uapi::VSOCK_OP_RESPONSE, After::Opens, Arms::Keep),
-        RxStep::Request => turning(uapi::VSOCK_OP_REQUEST, After::Same, Arms::Wait),
-        RxStep::OutOfState => plain(Answer::Done, uapi::VSOCK_OP_RST, false, false),
-        RxStep::AskCredit => plain(Answer::Done, uapi::VSOCK_OP_CREDIT_REQUEST, true, false),
-        RxStep::NoBuffer => plain(Answer::PktBufMissing, 0, false, false),
-        RxStep::Data(count) => data_row(count),
-        RxStep::Close => close_row(),
-        RxStep::Fail => plain(Answer::Done, uapi::VSOCK_OP_RST, true, false),
-        RxStep::Update => plain(Answer::Done, uapi::VSOCK_OP_CREDIT_UPDATE, true, true),
-        RxStep::Nothing => plain(Answer::NoData, 0, false, true),
+impl Row {
+    // A row that carries no data and leaves state and timer.
+    fn plain(answer: Answer, op: u16, tells: bool, ends: bool) -> Row
+        ensures { result ≡ plain_row answer op tells ends }
+    {
+        Row {
+            answer,
+            op,
+            flags: 0,
+            count: 0,
+            tells,
+            ends,
+            after: After::Same,
+            arms: Arms::Keep,
+        }
+    }
+
+    // One that moves state or timer; our fwd_cnt does not count as told.
+    fn turning(op: u16, after: After, arms: Arms) -> Row
+        ensures { result ≡ turning_row op after arms }
+    {
+        Row {
+            after,
+            arms,
+            ..Row::plain(Ok(()), op, false, false)
+        }
+    }
+
+    fn data(count: usize) -> Row
+        ensures { result ≡ row_of (RxStep.Data count) }
+    {
+        Row {
+            count,
+            ..Row::plain(Ok(()), uapi::VSOCK_OP_RW, true, false)
+        }
+    }
+
+    fn close() -> Row
+        ensures { result ≡ row_of RxStep.Close }
+    {
+        Row {
+            flags: uapi::VSOCK_FLAGS_SHUTDOWN_RCV + uapi::VSOCK_FLAGS_SHUTDOWN_SEND,
+            after: After::Closes,
+            arms: Arms::Linger,
+            ..Row::plain(Ok(()), uapi::VSOCK_OP_SHUTDOWN, true, false)
+        }
     }
 }
 
-// A row that carries no data and leaves state and timer.
-fn plain(answer: Answer, op: u16, tells: bool, ends: bool) -> Row
-    ensures { result ≡ plain_row answer op tells ends }
-{
-    Row {
-        answer,
-        op,
-        flags: 0,
-        count: 0,
-        tells,
-        ends,
-        after: After::Same,
-        arms: Arms::Keep,
-    }
-}
-
-// One that moves state or timer; our fwd_cnt does not count as told.
-fn turning(op: u16, after: After, arms: Arms) -> Row
-    ensures { result ≡ turning_row op after arms }
-{
-    Row {
-        answer: Answer::Done,
-        op,
-        flags: 0,
-        count: 0,
-        tells: false,
-        ends: false,
-        after,
-        arms,
-    }
-}
-
-fn data_row(count: usize) -> Row
-    ensures { result ≡ row_of (RxStep.Data count) }
-{
-    let mut row = plain(Answer::Done, uapi::VSOCK_OP_RW, true, false);
-    row.count = count;
-    row
-}
-
-fn close_row() -> Row
-    ensures { result ≡ row_of RxStep.Close }
-{
-    Row {
-        answer: Answer::Done,
-        op: uapi::VSOCK_OP_SHUTDOWN,
-        flags: uapi::VSOCK_FLAGS_SHUTDOWN_RCV + uapi::VSOCK_FLAGS_SHUTDOWN_SEND,
-        count: 0,
-        tells: true,
-        ends: false,
-        after: After::Closes,
-        arms: Arms::Linger,
-    }
-}
-
-// The state after a row.
-pub fn state_after(after: After, state: ConnState) -> ConnState
-    ensures { result ≡ afterwards after state }
-{
-    match after {
-        After::Same => state,
-        After::Opens => ConnState::Established,
-        After::Closes => ConnState::LocalClosed,
-    }
-}
-
-// The timer after it: `wait` where a request goes out, `linger` where the stream has ended.
-pub fn timer_after(arms: Arms, expiry: Timer, wait: Timer, linger: Timer) -> Timer
-    ensures { result ≡ armed arms expiry wait linger }
-{
-    match arms {
-        Arms::Keep => expiry,
-        Arms::Wait => wait,
-        Arms::Linger => linger,
+impl RxStep {
+    // The row of a step.
+    pub fn row(self) -> Row
+        ensures { result ≡ row_of self }
+    {
+        match self {
+            RxStep::Rst => Row::plain(Ok(()), uapi::VSOCK_OP_RST, false, false),
+            RxStep::Response => Row::turning(uapi::VSOCK_OP_RESPONSE, After::Opens, Arms::Keep),
+            RxStep::Request => Row::turning(uapi::VSOCK_OP_REQUEST, After::Same, Arms::Wait),
+            RxStep::OutOfState => Row::plain(Ok(()), uapi::VSOCK_OP_RST, false, false),
+            RxStep::AskCredit => Row::plain(Ok(()), uapi::VSOCK_OP_CREDIT_REQUEST, true, false),
+            RxStep::NoBuffer => Row::plain(Err(Refusal::PktBufMissing), 0, false, false),
+            RxStep::Data(count) => Row::data(count),
+            RxStep::Close => Row::close(),
+            RxStep::Fail => Row::plain(Ok(()), uapi::VSOCK_OP_RST, true, false),
+            RxStep::Update => Row::plain(Ok(()), uapi::VSOCK_OP_CREDIT_UPDATE, true, true),
+            RxStep::Nothing => Row::plain(Err(Refusal::NoData), 0, false, true),
+        }
     }
 }

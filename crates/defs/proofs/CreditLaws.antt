@@ -1,10 +1,9 @@
 -- The credit formula and the threshold rule, over true counts; and the two sides of credit. Assumes nothing.
-use Rattle.std.proofs.Common.{◌≡◌, ℕ, ◌-◌, ◌%◌, ◌^◌, ◌<◌, ◌≤◌, true, ltb, arith, ltb-true, lt-ltb, le-leb, leb-true}
-use borrow.Author.Tests.{lt-leb}
+use Rattle.std.proofs.Common.{◌≡◌, ℕ, ◌-◌, ◌%◌, ◌^◌, ◌<◌, ◌≤◌, true, ltb, arith, ltb-true, lt-ltb, leb-true}
 use Rattle.defs.specs.Wrapping.{wsub}
 use Rattle.defs.specs.Credit.{peer_avail_credit, peer_needs_credit_update}
 use Rattle.defs.specs.Promises.{Exactly, CreditIsFreeSpace, ThresholdTells}
-use Rattle.defs.proofs.ChoiceLaws.{when_true, when_false, when_holds}
+use Rattle.defs.proofs.ChoiceLaws.{when_holds}
 
 -- the outstanding bytes are the true difference of the counts, though these wrap
 outstanding : (sent fwd : ℕ) → fwd ≤ sent → sent - fwd < 2 ^ 32 → wsub (sent % 2 ^ 32) (fwd % 2 ^ 32) ≡ sent - fwd
@@ -21,14 +20,11 @@ credit_is_free_space alloc sent fwd l h =
     (λ t. let k : alloc ≤ wsub (sent % 2 ^ 32) (fwd % 2 ^ 32) = leb-true _ _ t in none_left alloc (sent - fwd) (omega arith))
     (λ t. omega arith)
 
--- the two sides of the definition, for its function
-pub used_up : (alloc sent fwd : ℕ) → alloc ≤ wsub sent fwd → peer_avail_credit alloc sent fwd ≡ 0
+-- the definition as one difference, which stops at 0
+pub stops_at_0 : (alloc sent fwd : ℕ) → alloc - wsub sent fwd ≡ peer_avail_credit alloc sent fwd
 unfolding peer_avail_credit
-used_up alloc sent fwd l = when_true _ _ _ (le-leb _ _ l)
-
-pub left_over : (alloc sent fwd : ℕ) → wsub sent fwd < alloc → peer_avail_credit alloc sent fwd ≡ alloc - wsub sent fwd
-unfolding peer_avail_credit
-left_over alloc sent fwd l = when_false _ _ _ (lt-leb _ _ l)
+stops_at_0 alloc sent fwd =
+    when_holds (λ (x : ℕ). alloc - wsub sent fwd ≡ x) _ _ _ (λ t. let l = leb-true alloc (wsub sent fwd) t in omega arith) (λ t. omega arith)
 
 short_by : (size threshold apart : ℕ) → threshold ≤ size → size < 2 ^ 32 → apart < 2 ^ 32
     → Exactly (ltb (wsub size apart) threshold ≡ true) ((apart ≤ size) × (size - apart < threshold))

@@ -2,13 +2,11 @@
 use Rattle.std.proofs.Common.{◌≡◌, ℕ, zero, suc, ◌^◌, ◌<◌, ◌≤◌, Bool, true, false, not, List, [], ◌∷◌, sym, refl, ap, ◌∙◌, subst, ⊎_elim, le_of_suc-le-suc, not-suc-le-zero, arith}
 use borrow.Author.Tests.{not-false}
 use Rattle.defs.specs.Choice.{when}
-use Rattle.defs.specs.Answer.{Told, told, is_done, when_done}
+use Rattle.defs.specs.Answer.{Told, Answer, told, done, is_done, when_done}
 use Rattle.defs.specs.Ladder.{door_of, late_of, lowest_of, record_answer, clock_answer}
 use Rattle.defs.specs.Limits.{is_clock}
 use Rattle.defs.specs.Stream.{stopped_by, stops}
 use Rattle.defs.specs.Promises.{Exactly, row_at, FirstInTurn, AnswersInTurn, LowestNumber, RecordAnswers, ClockAnswers}
-use Rattle.defs.specs.declared.answer.Answer.{Answer}
-use Rattle.defs.specs.declared.answer.Answer.TheVariants.{Done}
 use Rattle.defs.specs.declared.stream.StreamAnswer.{StreamAnswer}
 use Rattle.defs.specs.declared.stream.StreamAnswer.TheVariants.{Count, WouldBlock, Failed}
 use Rattle.defs.proofs.ChoiceLaws.{when_true, when_false}
@@ -86,7 +84,7 @@ exchange n false k m e = e refl
 -- what comes after door and late rungs decides where these pass
 pub ladder_then : (r h c l a m : Bool) (end : Answer) (rest : List (ℕ × Bool)) → (told end).number ≡ first_in_turn rest
     → (told (lowest_of (lowest_of (door_of r h c l) (late_of a m)) end)).number ≡ first_in_turn ((1, r) ∷ (2, h) ∷ (3, c) ∷ (4, l) ∷ (5, a) ∷ (6, m) ∷ rest)
-unfolding lowest_of door_of late_of when_done is_done when
+unfolding lowest_of door_of late_of when_done when
 ladder_then true h c l a m end rest e = refl
 ladder_then false true c l a m end rest e = refl
 ladder_then false false true l a m end rest e = refl
@@ -102,26 +100,26 @@ stop_number (Count n) = refl
 stop_number WouldBlock = refl
 stop_number Failed = refl
 
-pub lowest_done : (q : Answer) → lowest_of Done q ≡ q
+pub lowest_done : (q : Answer) → lowest_of done q ≡ q
 unfolding lowest_of
-lowest_done q = when_done_lem Done q Done refl
+lowest_done q = when_done_lem done q done refl
 
 pub lowest_refused : (p q : Answer) → is_done p ≡ false → lowest_of p q ≡ p
 unfolding lowest_of
 lowest_refused p q n = when_not_done p q p n
 
-pub lowest_end : (p : Answer) → lowest_of p Done ≡ p
+pub lowest_end : (p : Answer) → lowest_of p done ≡ p
 lowest_end p =
     ⊎_elim
-    (λ (t : is_done p ≡ true). let d = is_done_lem p t in rw d (lowest_done Done))
-    (λ (t : is_done p ≡ false). lowest_refused p Done t)
+    (λ (t : is_done p ≡ true). let d = is_done_lem p t in rw d (lowest_done done))
+    (λ (t : is_done p ≡ false). lowest_refused p done t)
     (true_or_false (is_done p))
 
 pub lowest_number : LowestNumber
 lowest_number r h c l a m =
     by_turn (told (lowest_of (door_of r h c l) (late_of a m)))
     (row 1 (as_is r) ∷ row 2 (as_is h) ∷ row 3 (as_is c) ∷ row 4 (as_is l) ∷ row 5 (as_is a) ∷ row 6 (as_is m) ∷ [])
-    (ap (λ (x : Answer). (told x).number) (sym (lowest_end _)) ∙ ladder_then r h c l a m Done [] refl)
+    (ap (λ (x : Answer). (told x).number) (sym (lowest_end _)) ∙ ladder_then r h c l a m done [] refl)
 
 pub record_number : (s : Bool) → (told (record_answer s)).number ≡ first_in_turn ((1, not s) ∷ [])
 unfolding record_answer door_of when
@@ -153,17 +151,17 @@ by_clock t sound ms P e m = by_turn t (row 1 (not_means m) ∷ row 3 (clock_over
 
 -- ---- for callers: what a part that passed or refused says
 
--- past a `let Answer::Done = a else`, the first part's refusal is the ladder's
+-- past a `let Answer::done = a else`, the first part's refusal is the ladder's
 pub lowest_kept : (a p q : Answer) → a ≡ p → NotDone a → a ≡ lowest_of p q
 unfolding lowest_of
 lowest_kept a p q e k = rw (← e) (sym (when_not_done a q a (not_done a k)))
 
 -- after it, the second part decides
-pub lowest_on : (a p q : Answer) → a ≡ p → a ≡ Done → lowest_of p q ≡ q
+pub lowest_on : (a p q : Answer) → a ≡ p → a ≡ done → lowest_of p q ≡ q
 unfolding lowest_of
 lowest_on a p q e d = when_done_lem p q p (sym e ∙ d)
 
-pub lowest_passed : (p q : Answer) → lowest_of p q ≡ Done → (p ≡ Done) × (q ≡ Done)
+pub lowest_passed : (p q : Answer) → lowest_of p q ≡ done → (p ≡ done) × (q ≡ done)
 unfolding lowest_of
 lowest_passed p q e =
     ⊎_elim
@@ -171,7 +169,7 @@ lowest_passed p q e =
     (λ (t : is_done p ≡ false). absurd (clash (is_done p) t (ap is_done (sym (when_not_done p q p t) ∙ e) ∙ done_is_done)))
     (true_or_false (is_done p))
 
-refused : {A : Type 0} (a : Answer) → a ≡ Done → 0 < (told a).number → A
+refused : {A : Type 0} (a : Answer) → a ≡ done → 0 < (told a).number → A
 refused a e l = let z : (told a).number ≡ 0 = ap (λ (x : Answer). (told x).number) e in absurd (omega arith)
 
 pub record DoorPassed (r h c l : Bool) : Type 0 where
@@ -180,7 +178,7 @@ pub record DoorPassed (r h c l : Bool) : Type 0 where
   pub clock_ok : c ≡ false
   pub length_ok : l ≡ false
 
-pub door_passed : (r h c l : Bool) → door_of r h c l ≡ Done → DoorPassed r h c l
+pub door_passed : (r h c l : Bool) → door_of r h c l ≡ done → DoorPassed r h c l
 unfolding door_of when
 door_passed true h c l e = refused _ e (omega arith)
 door_passed false true c l e = refused _ e (omega arith)
@@ -192,21 +190,27 @@ pub record LatePassed (a n : Bool) : Type 0 where
   pub answer_ok : a ≡ false
   pub room_ok : n ≡ false
 
-pub late_passed : (a n : Bool) → late_of a n ≡ Done → LatePassed a n
+pub late_passed : (a n : Bool) → late_of a n ≡ done → LatePassed a n
 unfolding late_of when
 late_passed true n e = refused _ e (omega arith)
 late_passed false true e = refused _ e (omega arith)
 late_passed false false e = record { answer_ok = refl; room_ok = refl }
 
--- a record whose answer is Done is sound
-pub record_passed : (a : Answer) (sound : Bool) → a ≡ record_answer sound → a ≡ Done → sound ≡ true
+-- a record whose answer is done is sound
+pub record_passed : (a : Answer) (sound : Bool) → a ≡ record_answer sound → a ≡ done → sound ≡ true
 unfolding record_answer
 record_passed a sound e d = not-false sound (door_passed _ _ _ _ (sym e ∙ d)).record_ok
 
 -- and one that is not sound is refused
 pub record_refused : (sound : Bool) → sound ≡ false → is_done (record_answer sound) ≡ false
-unfolding record_answer door_of when is_done
+unfolding record_answer door_of when
 record_refused sound e = rw e
+
+-- its answer is done exactly where it is sound
+pub record_is_done : (sound : Bool) → is_done (record_answer sound) ≡ sound
+unfolding record_answer door_of when
+record_is_done true = refl
+record_is_done false = refl
 
 -- behind a door that refuses, two rungs decide nothing
 pub behind_two : (door p q : Answer) → is_done door ≡ false → lowest_of (lowest_of door p) q ≡ door

@@ -1,12 +1,13 @@
 -- Laws of the calls that only look: where a call is refused nothing is told, where it is done what is known then. Assumes nothing.
 use Rattle.std.proofs.Common.{◌≡◌, ℕ, Bool, true, false, sym, refl, ap, ◌∙◌}
-use Rattle.defs.specs.Answer.{Told, told, when_done}
+use Rattle.defs.specs.Answer.{Told, Answer, told, done, when_done}
 use Rattle.defs.specs.Ladder.{record_answer}
-use Rattle.defs.specs.Look.{FlagLeft, flag_of, LenLeft, len_of}
+use Rattle.defs.specs.Look.{FlagLeft, flag_seen, flag_of, LenLeft, len_seen, len_of}
 use Rattle.defs.specs.Promises.{RefusedTellsNothing}
-use Rattle.defs.specs.declared.answer.Answer.{Answer}
-use Rattle.defs.specs.declared.answer.Answer.TheVariants.{Done}
-use Rattle.defs.proofs.AnswerLaws.{number_zero, when_done_lem, when_refused, when_done_alike}
+use Rattle.defs.specs.declared.answer.Refusal.{Refusal}
+use Rattle.std.specs.Prelude.{Result, Ok}
+use Rattle.std.specs.Result.{result_and}
+use Rattle.defs.proofs.AnswerLaws.{result_left, seen_apart, number_zero, when_done_lem, when_refused, when_done_alike}
 use Rattle.defs.proofs.LadderLaws.{record_passed}
 
 -- ---- what is told where it isn't done, and where it is
@@ -28,18 +29,34 @@ unfolding len_of
 len_done a value left says n =
     ap (λ (l : LenLeft). l.len) says ∙ when_done_lem a value 0 (number_zero a (ap (λ (l : LenLeft). l.answer.number) (sym says) ∙ n))
 
+-- ---- a result: what is seen of it is what the statement says, and tells it from any other
+
+pub flag_said : (a : Answer) (value : Bool) (r : Result Bool Refusal) → r ≡ result_and a (Ok value) → flag_seen r ≡ flag_of a value
+unfolding flag_of
+flag_said a value r e = result_left (λ t x. record { answer = t; holds = x }) false value a a r e refl
+
+pub flag_apart : (r s : Result Bool Refusal) → flag_seen r ≡ flag_seen s → r ≡ s
+flag_apart r s e = seen_apart false r s (ap (λ (l : FlagLeft). l.answer) e) (ap (λ (l : FlagLeft). l.holds) e)
+
+pub len_said : (a : Answer) (value : ℕ) (r : Result ℕ Refusal) → r ≡ result_and a (Ok value) → len_seen r ≡ len_of a value
+unfolding len_of
+len_said a value r e = result_left (λ t x. record { answer = t; len = x }) 0 value a a r e refl
+
+pub len_apart : (r s : Result ℕ Refusal) → len_seen r ≡ len_seen s → r ≡ s
+len_apart r s e = seen_apart 0 r s (ap (λ (l : LenLeft). l.answer) e) (ap (λ (l : LenLeft). l.len) e)
+
 -- ---- two that tell alike
 
 told_alike : {A Out : Type 0} (make : Told → A → Out) (none : A) (left : Out) (a b : Answer) (x y : A) → left ≡ make (told a) (when_done a x none) → a ≡ b
-    → (b ≡ Done → x ≡ y) → left ≡ make (told b) (when_done b y none)
+    → (b ≡ done → x ≡ y) → left ≡ make (told b) (when_done b y none)
 told_alike make none left a b x y e f alike =
     e ∙ ap (λ (c : Answer). make (told c) (when_done c x none)) f ∙ ap (make (told b)) (when_done_alike b x y none alike)
 
-pub flag_told : (left : FlagLeft) (a b : Answer) (x y : Bool) → left ≡ flag_of a x → a ≡ b → (b ≡ Done → x ≡ y) → left ≡ flag_of b y
+pub flag_told : (left : FlagLeft) (a b : Answer) (x y : Bool) → left ≡ flag_of a x → a ≡ b → (b ≡ done → x ≡ y) → left ≡ flag_of b y
 unfolding flag_of
 flag_told left a b x y e f alike = told_alike (λ t v. record { answer = t; holds = v }) false left a b x y e f alike
 
-pub len_told : (left : LenLeft) (a b : Answer) (x y : ℕ) → left ≡ len_of a x → a ≡ b → (b ≡ Done → x ≡ y) → left ≡ len_of b y
+pub len_told : (left : LenLeft) (a b : Answer) (x y : ℕ) → left ≡ len_of a x → a ≡ b → (b ≡ done → x ≡ y) → left ≡ len_of b y
 unfolding len_of
 len_told left a b x y e f alike = told_alike (λ t v. record { answer = t; len = v }) 0 left a b x y e f alike
 

@@ -1,13 +1,11 @@
 -- Every public call is pinned by its own contract, which only proofs/ can name (`Learnt`: what a caller learns of it). Assumes nothing.
 use Rattle.std.proofs.Common.{ℕ, Bool, List}
-use Rattle.defs.specs.Answer.{told}
-use Rattle.defs.specs.Look.{FlagLeft, LenLeft}
+use Rattle.defs.specs.Answer.{Answer}
 use Rattle.defs.specs.Pinned.{Pinned}
-use Rattle.defs.specs.declared.answer.Answer.{Answer}
 use Rattle.defs.proofs.Pins.{by_equation}
 use Rattle.defs.proofs.answer.number_of.Reads as number_of
-use Rattle.defs.proofs.stream.has_failed.Reads as has_failed
-use Rattle.defs.proofs.stream.stopped_by.Reads as stopped_by
+use Rattle.defs.proofs.stream.StreamAnswer.has_failed.Reads as has_failed
+use Rattle.defs.proofs.stream.StreamAnswer.stopped_by.Reads as stopped_by
 use Rattle.defs.proofs.limits.is_ring_size.Reads as is_ring_size
 use Rattle.defs.proofs.limits.is_threshold.Reads as is_threshold
 use Rattle.defs.proofs.limits.is_timeout.Reads as is_timeout
@@ -19,16 +17,10 @@ use Rattle.defs.proofs.limits.is_packet_length.Reads as is_packet_length
 use Rattle.defs.proofs.limits.is_header_length.Reads as is_header_length
 use Rattle.defs.proofs.ladder.door.Reads as door
 use Rattle.defs.proofs.ladder.late.Reads as late
-use Rattle.defs.proofs.ladder.lowest.Reads as lowest
 use Rattle.defs.proofs.ladder.record_answer.Reads as record_answer
 use Rattle.defs.proofs.ladder.clock_answer.Reads as clock_answer
-use Rattle.defs.proofs.look.flag_of.Reads as flag_of
-use Rattle.defs.proofs.look.len_of.Reads as len_of
-use Rattle.defs.proofs.wrapping.wrapping_add.Reads as wrapping_add
-use Rattle.defs.proofs.wrapping.wrapping_sub.Reads as wrapping_sub
 use Rattle.defs.proofs.credit.peer_avail_credit.Reads as peer_avail_credit
 use Rattle.defs.proofs.credit.peer_needs_credit_update.Reads as peer_needs_credit_update
-use Rattle.defs.proofs.copying.smaller.Reads as smaller
 use Rattle.defs.proofs.copying.copy.Reads as copy
 use Rattle.defs.proofs.copying.vsock_copy.Reads as vsock_copy
 
@@ -48,16 +40,10 @@ pub record EachCallPinned : Type 0 where
   pub is_header_length : Pinned is_header_length.Learnt Bool (λ l r e. r)
   pub door : Pinned door.Learnt Answer (λ l r e. r)
   pub late : Pinned late.Learnt Answer (λ l r e. r)
-  pub lowest : Pinned lowest.Learnt Answer (λ l r e. r)
   pub record_answer : Pinned record_answer.Learnt Answer (λ l r e. r)
   pub clock_answer : Pinned clock_answer.Learnt Answer (λ l r e. r)
-  pub flag_of : Pinned flag_of.Learnt FlagLeft (λ l r e. record { answer = told r.answer; holds = r.holds })
-  pub len_of : Pinned len_of.Learnt LenLeft (λ l r e. record { answer = told r.answer; len = r.len })
-  pub wrapping_add : Pinned wrapping_add.Learnt ℕ (λ l r e. r)
-  pub wrapping_sub : Pinned wrapping_sub.Learnt ℕ (λ l r e. r)
   pub peer_avail_credit : Pinned peer_avail_credit.Learnt ℕ (λ l r e. r)
   pub peer_needs_credit_update : Pinned peer_needs_credit_update.Learnt Bool (λ l r e. r)
-  pub smaller : Pinned smaller.Learnt ℕ (λ l r e. r)
   pub copy : Pinned copy.Learnt (List ℕ) (λ l r e. e.0.now)
   pub vsock_copy : Pinned vsock_copy.Learnt (List ℕ) (λ l r e. e.0.now)
 
@@ -77,16 +63,10 @@ each_call_pinned = record {
   is_header_length = by_equation _ _ _;
   door = by_equation _ _ _;
   late = by_equation _ _ _;
-  lowest = by_equation _ _ _;
   record_answer = by_equation _ _ _;
   clock_answer = by_equation _ _ _;
-  flag_of = by_equation _ _ _;
-  len_of = by_equation _ _ _;
-  wrapping_add = by_equation _ _ _;
-  wrapping_sub = by_equation _ _ _;
   peer_avail_credit = by_equation _ _ _;
   peer_needs_credit_update = by_equation _ _ _;
-  smaller = by_equation _ _ _;
   copy = by_equation _ _ _;
   vsock_copy = by_equation _ _ _;
 }

@@ -3,7 +3,7 @@ use Rattle.std.proofs.Common.{refl}
 use Rattle.defs.specs.Choice.{when}
 use Rattle.defs.specs.Credit.{peer_avail_credit, peer_needs_credit_update}
 use Rattle.defs.specs.Edges.{reading_e, reading_h}
-use Rattle.defs.specs.Promises.{ToldTellsApart, LowestNumber, RecordAnswers, ClockAnswers, RefusedTellsNothing, StreamMeans, RingSizes, LimitsMean, WrapsAround, KeepsPlace, CreditIsFreeSpace, ThresholdTells, EdgesHold}
+use Rattle.defs.specs.Promises.{ToldTellsApart, DoneIsZero, LowestNumber, RecordAnswers, ClockAnswers, RefusedTellsNothing, StreamMeans, RingSizes, LimitsMean, WrapsAround, KeepsPlace, CreditIsFreeSpace, ThresholdTells, EdgesHold}
 use Rattle.defs.proofs.AnswerLaws as answers
 use Rattle.defs.proofs.LadderLaws as ladder
 use Rattle.defs.proofs.LookLaws as looks
@@ -14,6 +14,9 @@ use Rattle.defs.proofs.CreditLaws as credit
 
 pub told_tells_apart : ToldTellsApart
 told_tells_apart = answers.told_tells_apart
+
+pub done_is_zero : DoneIsZero
+done_is_zero = answers.done_is_zero
 
 pub lowest_number : LowestNumber
 lowest_number = ladder.lowest_number

@@ -1,12 +1,10 @@
 -- Laws of the stream's answers: what each means, and what is known past a `let StreamAnswer::Count(n) = a else`. Assumes nothing.
 use Rattle.std.proofs.Common.{◌≡◌, ℕ, ◌<◌, Bool, true, false, eqb, ◌⊎◌, sym, refl, ap, ◌∙◌, inl, inr, ⊎_elim, arith, eq-eqb, eqb-true}
 use Rattle.defs.specs.Answer.{told, is_done}
-use Rattle.defs.specs.Stream.{counted, failed, stops, stopped_by, read_counted, read_blocks}
+use Rattle.defs.specs.Stream.{counted, failed, stops, stopped_by, blocks}
 use Rattle.defs.specs.Promises.{Exactly, StreamMeans}
 use Rattle.defs.specs.declared.stream.StreamAnswer.{StreamAnswer}
 use Rattle.defs.specs.declared.stream.StreamAnswer.TheVariants.{Count, WouldBlock, Failed}
-use Rattle.defs.specs.declared.stream.ReadAnswer.{ReadAnswer}
-use Rattle.defs.specs.declared.stream.ReadAnswer.TheVariants.{Count as ReadCount, WouldBlock as ReadWouldBlock, Failed as ReadFailed}
 use Rattle.defs.proofs.Basics.{never}
 use Rattle.defs.proofs.MeansLaws.{in_words}
 
@@ -37,8 +35,7 @@ stream_means = record {
   stops = by_stop stops (λ n. refl) refl refl;
   ten = λ a. in_words (number_means (told (stopped_by a)).number 10) (by_stop (λ (a : StreamAnswer). eqb (told (stopped_by a)).number 10) (λ n. refl) refl refl a);
   which = λ a. (which a, λ e. ap (λ (b : StreamAnswer). (told (stopped_by b)).failed) e);
-  brings = λ a n p. (brings a n p, λ e. ap read_counted e);
-  blocks = λ a. (blocks a, λ e. ap read_blocks e);
+  blocks = λ a. (only a, λ e. ap blocks e);
 }
   where
     number_means : (a b : ℕ) → Exactly (a ≡ b) (eqb a b ≡ true)
@@ -54,15 +51,10 @@ stream_means = record {
     which WouldBlock e = absurd (never e)
     which Failed e = refl
 
-    brings : (a : ReadAnswer) (n : ℕ) → 0 < n → read_counted a ≡ n → a ≡ ReadCount n
-    brings (ReadCount m) n p e = ap ReadCount e
-    brings ReadWouldBlock n p e = absurd (omega arith)
-    brings ReadFailed n p e = absurd (omega arith)
-
-    blocks : (a : ReadAnswer) → read_blocks a ≡ true → a ≡ ReadWouldBlock
-    blocks (ReadCount n) e = absurd (never e)
-    blocks ReadWouldBlock e = refl
-    blocks ReadFailed e = absurd (never e)
+    only : (a : StreamAnswer) → blocks a ≡ true → a ≡ WouldBlock
+    only (Count n) e = absurd (never e)
+    only WouldBlock e = refl
+    only Failed e = absurd (never e)
 
 -- ---- past a `let .. else`
 
@@ -76,23 +68,12 @@ takes_none WouldBlock k = refl
 takes_none Failed k = refl
 
 pub not_count_stops : (a : StreamAnswer) → NotCount a → is_done (stopped_by a) ≡ false
-unfolding is_done
 not_count_stops (Count n) k = absurd (k n refl)
 not_count_stops WouldBlock k = refl
 not_count_stops Failed k = refl
 
 -- what does not end a call as done takes nothing
 pub stopped_takes_none : (a : StreamAnswer) → is_done (stopped_by a) ≡ false → counted a ≡ 0
-unfolding is_done
 stopped_takes_none (Count n) e = absurd (never (sym e))
 stopped_takes_none WouldBlock e = refl
 stopped_takes_none Failed e = refl
-
--- the same of the answer to a read
-abbrev pub NotRead : ReadAnswer → Type 0
-NotRead a = (n : ℕ) → a ≡ ReadCount n → ⊥
-
-pub reads_none : (a : ReadAnswer) → NotRead a → read_counted a ≡ 0
-reads_none (ReadCount n) k = absurd (k n refl)
-reads_none ReadWouldBlock k = refl
-reads_none ReadFailed k = refl

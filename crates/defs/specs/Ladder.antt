@@ -1,18 +1,17 @@
 -- The refusal ladder (01, "What comes back"): of several refusals the lowest number. Assumes nothing.
-use Rattle.std.specs.Prelude.{ℕ, Bool, false, not}
+use Rattle.std.specs.Prelude.{ℕ, Bool, false, not, Err}
 use Rattle.defs.specs.Choice.{when}
-use Rattle.defs.specs.Answer.{when_done}
+use Rattle.defs.specs.Answer.{Answer, done, when_done}
 use Rattle.defs.specs.Limits.{is_clock}
-use Rattle.defs.specs.declared.answer.Answer.{Answer}
-use Rattle.defs.specs.declared.answer.Answer.TheVariants.{Done, BadRecord, BadHeader, BadClock, BadLength, BadAnswer, NoRoom}
+use Rattle.defs.specs.declared.answer.Refusal.TheVariants.{BadRecord, BadHeader, BadClock, BadLength, BadAnswer, NoRoom}
 
 -- refusals 1 to 4, which look at no answer of the stream, by the tests of their rows
 unfoldable pub door_of : (record_bad header_bad clock_bad length_bad : Bool) → Answer
-door_of r h c l = when r BadRecord (when h BadHeader (when c BadClock (when l BadLength Done)))
+door_of r h c l = when r (Err BadRecord) (when h (Err BadHeader) (when c (Err BadClock) (when l (Err BadLength) done)))
 
 -- refusals 5 and 6, which judge what the stream answered
 unfoldable pub late_of : (answer_bad no_room : Bool) → Answer
-late_of a n = when a BadAnswer (when n NoRoom Done)
+late_of a n = when a (Err BadAnswer) (when n (Err NoRoom) done)
 
 -- the first part's refusal, else the second's: further rungs go between a door and its late rungs
 unfoldable pub lowest_of : Answer → Answer → Answer

@@ -1,19 +1,16 @@
 -- What this crate promises, in statements only; proofs/Promises has a line for each. Assumes nothing.
 use Rattle.std.specs.Prelude.{◌≡◌, ℕ, ◌+◌, ◌-◌, ◌%◌, ◌^◌, ◌<◌, ◌≤◌, Bool, true, false, ◌⊎◌, List, [], ◌∷◌, ◌≢◌, slice_index_or}
-use Rattle.defs.specs.Answer.{Told, told}
+use Rattle.defs.specs.Answer.{Told, Answer, told, is_done}
 use Rattle.defs.specs.Limits.{is_ring_size, is_threshold, is_timeout, is_rxq_limit, is_killq_limit, is_slot_count, is_clock, is_packet_length, is_header_length}
 use Rattle.defs.specs.Ladder.{door_of, late_of, lowest_of, record_answer, clock_answer}
 use Rattle.defs.specs.Look.{FlagLeft, FlagSays, LenLeft, LenSays}
-use Rattle.defs.specs.Stream.{counted, failed, stops, stopped_by, read_counted, read_blocks}
+use Rattle.defs.specs.Stream.{counted, failed, stops, stopped_by, blocks}
 use Rattle.defs.specs.Wrapping.{wadd, wsub}
 use Rattle.defs.specs.Credit.{peer_avail_credit, peer_needs_credit_update}
 use Rattle.defs.specs.Reading.{Hold}
 use Rattle.defs.specs.Edges.{reading_e, reading_h}
-use Rattle.defs.specs.declared.answer.Answer.{Answer}
 use Rattle.defs.specs.declared.stream.StreamAnswer.{StreamAnswer}
 use Rattle.defs.specs.declared.stream.StreamAnswer.TheVariants.{Count, WouldBlock, Failed}
-use Rattle.defs.specs.declared.stream.ReadAnswer.{ReadAnswer}
-use Rattle.defs.specs.declared.stream.ReadAnswer.TheVariants.{Count as ReadCount, WouldBlock as ReadWouldBlock}
 
 -- each of the two facts holds where the other does
 abbrev pub Exactly : Type 0 → Type 0 → Type 0
@@ -22,6 +19,10 @@ Exactly p q = (p → q) × (q → p)
 -- 01, "When an answer is an enum": number and values tell the cases apart
 abbrev pub ToldTellsApart : Type 0
 ToldTellsApart = (a b : Answer) → told a ≡ told b → a ≡ b
+
+-- done is number 0 alone
+abbrev pub DoneIsZero : Type 0
+DoneIsZero = (a : Answer) → Exactly (is_done a ≡ true) ((told a).number ≡ 0)
 
 -- row i of a list of rows, each a number of 01's table and when it is given; past the last stands 0, "otherwise"
 abbrev pub row_at : List (ℕ × Type 0) → ℕ → ℕ × Type 0
@@ -66,8 +67,7 @@ pub record StreamMeans : Type 0 where
   pub stops : (a : StreamAnswer) → Exactly (stops a ≡ true) ((a ≡ WouldBlock) ⊎ (a ≡ Failed))
   pub ten : (a : StreamAnswer) → Exactly ((told (stopped_by a)).number ≡ 10) ((a ≡ WouldBlock) ⊎ (a ≡ Failed))
   pub which : (a : StreamAnswer) → Exactly ((told (stopped_by a)).failed ≡ true) (a ≡ Failed)
-  pub brings : (a : ReadAnswer) (n : ℕ) → 0 < n → Exactly (read_counted a ≡ n) (a ≡ ReadCount n)
-  pub blocks : (a : ReadAnswer) → Exactly (read_blocks a ≡ true) (a ≡ ReadWouldBlock)
+  pub blocks : (a : StreamAnswer) → Exactly (blocks a ≡ true) (a ≡ WouldBlock)
 
 -- a power of two
 abbrev pub PowerOfTwo : ℕ → Type 0

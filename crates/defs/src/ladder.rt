@@ -1,8 +1,11 @@
-// The refusal ladder: of several refusals the lowest number (01, "What comes back").
-ghost use Rattle.std.specs.Prelude.{◌≡◌};
-ghost use Rattle.defs.specs.Ladder.{door_of, late_of, lowest_of, record_answer, clock_answer};
+// The refusal ladder: of several refusals the lowest number (01, "What comes back"). Its parts are
+// joined by `?`, or by `and`: a part that refuses goes before all behind it.
+#![tactic(auto, unfolding(crate::specs::Ladder::record_answer, crate::specs::Ladder::clock_answer))]
 
-use crate::answer::Answer;
+ghost use Rattle.std.specs.Prelude.{◌≡◌};
+ghost use Rattle.defs.specs.Ladder.{door_of, late_of, record_answer, clock_answer};
+
+use crate::answer::{Answer, Refusal};
 use crate::limits;
 
 // Refusals 1 to 4, which look at no answer of the stream.
@@ -10,18 +13,18 @@ pub fn door(bad_record: bool, bad_header: bool, bad_clock: bool, bad_length: boo
     ensures { result ≡ door_of bad_record bad_header bad_clock bad_length }
 {
     if bad_record {
-        return Answer::BadRecord;
+        return Err(Refusal::BadRecord);
     }
     if bad_header {
-        return Answer::BadHeader;
+        return Err(Refusal::BadHeader);
     }
     if bad_clock {
-        return Answer::BadClock;
+        return Err(Refusal::BadClock);
     }
     if bad_length {
-        return Answer::BadLength;
+        return Err(Refusal::BadLength);
     }
-    Answer::Done
+    Ok(())
 }
 
 // Refusals 5 and 6, which judge what the stream answered.
@@ -29,22 +32,12 @@ pub fn late(bad_answer: bool, no_room: bool) -> Answer
     ensures { result ≡ late_of bad_answer no_room }
 {
     if bad_answer {
-        return Answer::BadAnswer;
+        return Err(Refusal::BadAnswer);
     }
     if no_room {
-        return Answer::NoRoom;
+        return Err(Refusal::NoRoom);
     }
-    Answer::Done
-}
-
-// The refusal of the first part that refuses.
-pub fn lowest(first: Answer, then: Answer) -> Answer
-    ensures { result ≡ lowest_of first then }
-{
-    let Answer::Done = first else {
-        return first;
-    };
-    then
+    Ok(())
 }
 
 // The answer of a call that tests nothing but its record: 1 exactly where that is not sound.

@@ -1,5 +1,8 @@
 // Every limit of document 01, once (01, "The numbers of a connection"), and the tests that keep
-// numbers within them. specs/Limits.antt has the same numbers under the same names.
+// numbers within them, one for each name that 01 has: a test over any two limits would leave it to
+// its callers which they are. specs/Limits.antt has the same numbers under the same names.
+#![tactic(auto, unfolding(crate::specs::Limits::is_ring_size, crate::specs::Limits::is_threshold, crate::specs::Limits::is_timeout, crate::specs::Limits::is_rxq_limit, crate::specs::Limits::is_killq_limit, crate::specs::Limits::is_slot_count, crate::specs::Limits::is_clock, crate::specs::Limits::is_packet_length, crate::specs::Limits::is_header_length))]
+
 ghost use Rattle.std.specs.Prelude.{◌≡◌};
 ghost use Rattle.defs.specs.Limits.{is_ring_size, is_threshold, is_timeout, is_rxq_limit, is_killq_limit, is_slot_count, is_clock, is_packet_length, is_header_length};
 
@@ -44,40 +47,37 @@ pub const VSOCK_PKT_HDR_SIZE: usize = 44;
 pub fn is_ring_size(size: u32) -> bool
     ensures { result ≡ is_ring_size size }
 {
-    if size < MIN_RING_SIZE {
-        return false;
-    }
-    MAX_RING_SIZE % size == 0
+    MIN_RING_SIZE <= size && MAX_RING_SIZE % size == 0
 }
 
 pub fn is_threshold(threshold: u32, size: u32) -> bool
     ensures { result ≡ is_threshold threshold size }
 {
-    (MIN_THRESHOLD <= threshold) & (threshold <= size)
+    (MIN_THRESHOLD..=size).contains(&threshold)
 }
 
 pub fn is_timeout(ms: u64) -> bool
     ensures { result ≡ is_timeout ms }
 {
-    (MIN_TIMEOUT_MS <= ms) & (ms <= MAX_TIMEOUT_MS)
+    (MIN_TIMEOUT_MS..=MAX_TIMEOUT_MS).contains(&ms)
 }
 
 pub fn is_rxq_limit(limit: usize) -> bool
     ensures { result ≡ is_rxq_limit limit }
 {
-    (MIN_RXQ_SIZE <= limit) & (limit <= MAX_RXQ_SIZE)
+    (MIN_RXQ_SIZE..=MAX_RXQ_SIZE).contains(&limit)
 }
 
 pub fn is_killq_limit(limit: usize) -> bool
     ensures { result ≡ is_killq_limit limit }
 {
-    (MIN_KILLQ_SIZE <= limit) & (limit <= MAX_KILLQ_SIZE)
+    (MIN_KILLQ_SIZE..=MAX_KILLQ_SIZE).contains(&limit)
 }
 
 pub fn is_slot_count(slots: usize) -> bool
     ensures { result ≡ is_slot_count slots }
 {
-    (MIN_CONNECTIONS <= slots) & (slots <= MAX_CONNECTIONS)
+    (MIN_CONNECTIONS..=MAX_CONNECTIONS).contains(&slots)
 }
 
 pub fn is_clock(ms: u64) -> bool

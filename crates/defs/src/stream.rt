@@ -3,18 +3,11 @@
 ghost use Rattle.std.specs.Prelude.{◌≡◌};
 ghost use Rattle.defs.specs.Stream.{failed, stopped_by};
 
-use crate::answer::Answer;
+use crate::answer::{Answer, Refusal};
 
-#[derive(Clone, Copy)]
+// A count of bytes, taken by a write or brought by a read; those of a read are lent beside it.
+#[derive(Clone, Copy, Debug, PartialEq, Eq)]
 pub enum StreamAnswer {
-    Count(usize),
-    WouldBlock,
-    Failed,
-}
-
-// The same of a read; the bytes that it counts are lent beside it.
-#[derive(Clone, Copy)]
-pub enum ReadAnswer {
     Count(usize),
     WouldBlock,
     Failed,
@@ -22,30 +15,28 @@ pub enum ReadAnswer {
 
 // The two answers that a writing call takes: the second is reached only where the first piece was
 // taken whole.
-#[derive(Clone, Copy)]
+#[derive(Clone, Copy, Debug, PartialEq, Eq)]
 pub struct StreamAnswers {
     pub first: StreamAnswer,
     pub second: StreamAnswer,
 }
 
-// Whether it is a failure.
-pub fn has_failed(answer: StreamAnswer) -> bool
-    ensures { result ≡ failed answer }
-{
-    match answer {
-        StreamAnswer::Count(_) => false,
-        StreamAnswer::WouldBlock => false,
-        StreamAnswer::Failed => true,
+impl StreamAnswer {
+    // Whether it is a failure.
+    pub fn has_failed(self) -> bool
+        ensures { result ≡ failed self }
+    {
+        matches!(self, StreamAnswer::Failed)
     }
-}
 
-// How a direct call ends by the answer to its first write: done, or number 10 of either kind.
-pub fn stopped_by(answer: StreamAnswer) -> Answer
-    ensures { result ≡ stopped_by answer }
-{
-    match answer {
-        StreamAnswer::Count(_) => Answer::Done,
-        StreamAnswer::WouldBlock => Answer::StreamBlocked,
-        StreamAnswer::Failed => Answer::StreamFailed,
+    // How a direct call ends by the answer to its first write: done, or number 10 of either kind.
+    pub fn stopped_by(self) -> Answer
+        ensures { result ≡ stopped_by self }
+    {
+        match self {
+            StreamAnswer::Count(_) => Ok(()),
+            StreamAnswer::WouldBlock => Err(Refusal::StreamBlocked),
+            StreamAnswer::Failed => Err(Refusal::StreamFailed),
+        }
     }
 }

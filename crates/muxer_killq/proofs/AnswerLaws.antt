@@ -16,7 +16,7 @@ use Rattle.muxer_killq.specs.Build.{build_answer, build_of}
 use Rattle.muxer_killq.specs.Outcomes.{Sound}
 use Rattle.muxer_killq.specs.Answers.{InRange, LookAnswers, NewAnswers, PopAnswers, PushAnswers, BuildAnswers}
 use Rattle.muxer_killq.specs.declared.item.MuxerKillQItem.{MuxerKillQItem}
-use Rattle.muxer_killq.proofs.QueueLaws.{in_range, sound_means}
+use Rattle.muxer_killq.proofs.QueueLaws.{in_range, limit_means, sound_means}
 
 pub look_answers : LookAnswers
 look_answers = answers.look_answers killq Sound sound_means
@@ -42,4 +42,4 @@ push_answers i =
 pub build_answers : BuildAnswers
 unfolding build_of build_answer
 build_answers i left says =
-    by_clock _ _ i.clock _ (answers.made_told killq _ _ left says) (and_means (in_range i.limit) (table_means i.ports i.used (length i.times)))
+    by_clock _ _ i.clock _ (answers.made_told killq _ _ left says) (and_means (limit_means i.limit) (table_means i.ports i.used (length i.times)))

@@ -1,68 +1,56 @@
 -- Laws of `from_conn_map`: what a turn of the walk keeps, what a slot gives, the sort of what was collected, and the refusals. Assumes nothing.
-use Prim.Native.Nat.{ℕ, ◌+◌, ◌<◌}
-use mathlib.Core.Path.{◌≡◌, ap, ◌∙◌}
-use mathlib.Core.Bool.{Bool, true, false, ◌&&◌}
-use mathlib.Core.List.{List, [], ◌∷◌}
+use Prim.Native.Nat.{ℕ}
+use mathlib.Core.Path.{◌≡◌, ap, sym, ◌∙◌}
+use mathlib.Core.Bool.{Bool, true, ◌&&◌}
+use mathlib.Core.List.{List, ◌++◌, map}
 use lib.Dec.{leb}
-use lib.ListN.{length, get_or}
+use lib.ListN.{length, drop}
 use Rattle.defs.specs.Ladder.{clock_answer}
 use Rattle.defs.specs.Limits.{max_killq, is_killq_limit}
-use Rattle.defs.specs.declared.answer.Answer.{Answer}
-use Rattle.defs.specs.declared.answer.Answer.TheVariants.{Done}
-use Rattle.conn_map.specs.Table.{Slot, used_at, slot_at, slots_of, sound_table}
+use Rattle.conn_map.specs.Table.{Slot, slots_of, sound_table}
+use Rattle.std.specs.Prelude.{filter}
+use Rattle.std.specs.List.{zip}
 use Rattle.conn_map.proofs.TableLaws as tables
+use Rattle.conn_map.proofs.TableLaws.{slot_in, gathered_in}
 use Rattle.queue.specs.Queue.{holding}
-use Rattle.queue.proofs.QueueLaws.{queue_is_its_list}
-use Rattle.queue.proofs.WalkLaws as walks
-use Rattle.muxer_killq.specs.Queue.{killq, items, pack}
+use Rattle.queue.proofs.QueueLaws.{queue_is_its_list, sound_says, packs, rearranged}
+use Rattle.muxer_killq.proofs.SortLaws.{sort_length}
+use Rattle.muxer_killq.specs.Queue.{killq, sound_q, items, pack, MuxerKillQ}
 use Rattle.muxer_killq.specs.Sort.{sort_by_time}
-use Rattle.muxer_killq.specs.Build.{is_ahead, item_of, ahead_of, built_from, collected, marked, BuildIn, build_answer}
+use Rattle.muxer_killq.specs.Build.{is_ahead, item_of, ahead_of, built_from, collected, BuildIn, build_answer}
 use Rattle.muxer_killq.specs.declared.item.MuxerKillQItem.{MuxerKillQItem}
-use Rattle.muxer_killq.specs.declared.killq.MuxerKillQ.{MuxerKillQ}
-use Rattle.muxer_killq.proofs.QueueLaws.{lawful, clock_passed}
+use Rattle.muxer_killq.proofs.QueueLaws.{lawful, limit_means, clock_passed}
+use Rattle.defs.specs.Answer.{Answer, done}
 
-module _ (clock : ℕ) (ports used times : List ℕ) where
-  -- the items whose time is after now, from slot i on
-  abbrev rest : ℕ → List MuxerKillQItem
-  rest i = tables.rest (is_ahead clock) item_of ports used times i
-
-  -- a slot that is marked gives its item, another gives none
-  pub comes : (i : ℕ) → i < length ports → marked (get_or used i 0) clock (get_or times i 0) ≡ true → rest i ≡ item_of (slot_at ports used times i) ∷ rest (i + 1)
-  unfolding used_at
-  comes i h e = tables.rest_yes (is_ahead clock) item_of ports used times i h e
-
-  pub passes : (i : ℕ) → i < length ports → marked (get_or used i 0) clock (get_or times i 0) ≡ false → rest i ≡ rest (i + 1)
-  unfolding used_at
-  passes i h e = tables.rest_no (is_ahead clock) item_of ports used times i h e
-
-  module _ (limit : ℕ) where
-    -- what a turn keeps
-    abbrev pub Kept : MuxerKillQ → ℕ → Type 0
-    Kept q i = walks.Walked lawful limit (ahead_of clock (slots_of ports used times)) rest q i
-
-    pub kept_start : (q : MuxerKillQ) → q ≡ pack [] limit true → Kept q 0
-    kept_start q e = walks.walk_start lawful _ _ _ q e (tables.rest_all (is_ahead clock) item_of ports used times)
+-- what the walk gathers are the items whose time is after now
+pub gathers : (clock : ℕ) (ports used times : List ℕ) → length used ≡ length ports → length times ≡ length ports
+    → map (λ (s : (ℕ × ℕ) × ℕ). item_of (slot_in s)) (filter (λ (s : (ℕ × ℕ) × ℕ). is_ahead clock (slot_in s)) (zip (zip ports used) times)) ≡ ahead_of clock (slots_of ports used times)
+gathers clock = gathered_in (is_ahead clock) item_of
 
 -- ---- the sort of what was collected
 
-pub sorted_collected : (limit clock : ℕ) (slots : List Slot) (q r : MuxerKillQ) → q ≡ collected limit clock slots
-    → r ≡ holding killq q (sort_by_time (items q)) q.synced → r ≡ built_from limit clock slots
+pub sorted_collected : (limit clock : ℕ) (slots : List Slot) (q : MuxerKillQ) (places l : List MuxerKillQItem) → length q.q ≡ max_killq → q ≡ collected limit clock slots
+    → sound_q q ≡ true → l ≡ sort_by_time (items q) → places ≡ l ++ drop q.len q.q
+    → ◌≡◌ {A = MuxerKillQ} (record { q = places; len = q.len; limit = q.limit; synced = q.synced }) (built_from limit clock slots)
 unfolding collected built_from
-sorted_collected limit clock slots q r e f =
-    f
+sorted_collected limit clock slots q places l n e s f g =
+    let u = sound_says killq lawful q n s in
+    let k : length l ≡ q.len = ap length f ∙ sort_length (items q) ∙ u.held in
+    packs killq places l q.len q.limit q.synced (sym k) (g ∙ rearranged q u l k)
+    ∙ ap (λ (x : List MuxerKillQItem). holding killq q x q.synced) f
     ∙ ap (λ (x : MuxerKillQ). holding killq x (sort_by_time (items x)) x.synced) e
     ∙ ap (λ (l : List MuxerKillQItem). pack (sort_by_time l) limit (leb (length (ahead_of clock slots)) limit))
     ((queue_is_its_list killq lawful).packed_items _ limit (leb (length (ahead_of clock slots)) limit))
 
 -- ---- the refusals
 
-module _ (i : BuildIn) (a : Answer) (e : a ≡ build_answer i) (d : a ≡ Done) where
+module _ (i : BuildIn) (a : Answer) (e : a ≡ build_answer i) (d : a ≡ done) where
   passed : is_killq_limit i.limit && sound_table i.ports i.used (length i.times) ≡ true
   unfolding build_answer
   passed = clock_passed a _ _ e d
 
   pub ready : tables.Ready max_killq i.limit i.ports i.used i.times
-  ready = tables.ready _ _ _ _ _ (is_killq_limit i.limit) (lawful.limit_fits i.limit) passed
+  ready = tables.ready _ _ _ _ _ (is_killq_limit i.limit) (λ e. ((limit_means i.limit).0 e).1) passed
 
 pub build_answer_lem : (i : BuildIn) (a : Answer) (l s : Bool) → a ≡ clock_answer (l && s) i.clock → l ≡ is_killq_limit i.limit
     → s ≡ sound_table i.ports i.used (length i.times) → a ≡ build_answer i

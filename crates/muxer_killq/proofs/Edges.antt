@@ -1,7 +1,7 @@
 -- 01's reading i, the order of equal times and the builds at the limit, computed. Assumes nothing.
 use mathlib.Core.Path.{refl}
 use Rattle.defs.specs.Choice.{when}
-use Rattle.defs.specs.Answer.{is_done, when_done}
+use Rattle.defs.specs.Answer.{when_done}
 use Rattle.defs.specs.Limits.{is_killq_limit, is_slot_count, is_clock}
 use Rattle.defs.specs.Ladder.{door_of, clock_answer}
 use Rattle.conn_map.specs.Key.{key_of}
@@ -16,5 +16,5 @@ use Rattle.muxer_killq.specs.Edges.{reading_i, ties, builds}
 use Rattle.muxer_killq.specs.Promises.{EdgesHold}
 
 pub edges_hold : EdgesHold
-unfolding when is_done when_done is_killq_limit is_clock door_of clock_answer all clear_q sound_q pop_list pop_of is_zero chosen gathered insert_by_time sort_into sort_by_time is_slot_count key_of used_at slots_from slots_of any_below hit distinct sound_table made_of built_from build_answer build_of reading_i ties builds
+unfolding when when_done is_killq_limit is_clock door_of clock_answer all clear_q sound_q pop_list pop_of is_zero chosen gathered insert_by_time sort_into sort_by_time is_slot_count key_of used_at slots_from slots_of any_below hit distinct sound_table made_of built_from build_answer build_of reading_i ties builds
 edges_hold = record { i = (refl, (refl, tt)); ties = (refl, (refl, tt)); builds = (refl, (refl, (refl, (refl, (refl, (refl, tt)))))) }

@@ -1,6 +1,5 @@
 pub mod Edges
 pub mod QueueLaws
-pub mod PushLaws
 pub mod SortLaws
 pub mod AnswerLaws
 pub mod OutcomeLaws

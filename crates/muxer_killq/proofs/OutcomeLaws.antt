@@ -8,12 +8,10 @@ use borrow.Author.Tests.{leb-true, leb-false, le-leb, lt-leb, ltb-true, lt-ltb, 
 use lib.Dec.{leb, eqb}
 use lib.ListN.{length, get_or, take}
 use Rattle.defs.specs.Choice.{when}
-use Rattle.defs.specs.Answer.{told}
+use Rattle.defs.specs.Answer.{told, Answer, done}
 use Rattle.defs.specs.Limits.{max_clock, is_clock}
 use Rattle.defs.specs.Ladder.{door_of, clock_answer}
 use Rattle.defs.specs.Promises.{Refuses}
-use Rattle.defs.specs.declared.answer.Answer.{Answer}
-use Rattle.defs.specs.declared.answer.Answer.TheVariants.{Done}
 use Rattle.defs.proofs.Basics.{both}
 use Rattle.defs.proofs.AnswerLaws.{done_passes}
 use Rattle.defs.proofs.ChoiceLaws.{when_true, when_false, when_holds}
@@ -27,7 +25,7 @@ use Rattle.queue.proofs.QueueLaws.{queue_is_its_list}
 use Rattle.queue.proofs.AnswerLaws as answers
 use Rattle.queue.proofs.EveryLaws as every
 use Rattle.muxer_killq.specs.Item.{zero_item, times_apart, is_alike}
-use Rattle.muxer_killq.specs.Queue.{killq, sound_q, items, pack}
+use Rattle.muxer_killq.specs.Queue.{killq, sound_q, items, pack, MuxerKillQ}
 use Rattle.muxer_killq.specs.Push.{item_at, push_list}
 use Rattle.muxer_killq.specs.Pop.{no_key, has_passed, key_in}
 use Rattle.muxer_killq.specs.Sort.{sort_by_time}
@@ -35,7 +33,6 @@ use Rattle.muxer_killq.specs.Build.{ahead_of, built_from, BuildIn, build_of}
 use Rattle.muxer_killq.specs.Promises.{Sorted}
 use Rattle.muxer_killq.specs.Outcomes.{RefusalsChangeNothing, RefusedIsEmpty, EveryNewIsEmpty, ahead_at, kill_at, BuiltMeans, BuiltHolds, EveryPushMeans, EveryPeekMeans, EveryPopMeans, EqualityMeans}
 use Rattle.muxer_killq.specs.declared.item.MuxerKillQItem.{MuxerKillQItem}
-use Rattle.muxer_killq.specs.declared.killq.MuxerKillQ.{MuxerKillQ}
 use Rattle.muxer_killq.proofs.QueueLaws.{lawful}
 use Rattle.muxer_killq.proofs.SortLaws.{every_sort_is_stable, sort_length}
 
@@ -131,7 +128,7 @@ every_push_means i o e g =
 pub every_peek_means : EveryPeekMeans
 every_peek_means q o e g = every.peek_means killq lawful q g o e
 
-clock_done : (sound : Bool) (clock : ℕ) → sound ≡ true → clock ≤ 2 ^ 62 → clock_answer sound clock ≡ Done
+clock_done : (sound : Bool) (clock : ℕ) → sound ≡ true → clock ≤ 2 ^ 62 → clock_answer sound clock ≡ done
 unfolding clock_answer door_of is_clock when
 clock_done sound clock s h = rw (s, le-leb clock max_clock h)
 

@@ -7,12 +7,11 @@ use Rattle.queue.specs.Queued.{QueuedLeft}
 use Rattle.queue.specs.Means.{Room}
 use Rattle.queue.specs.Answers as answers
 use Rattle.queue.specs.Answers.{timed_rows, push_rows}
-use Rattle.muxer_killq.specs.Queue.{killq}
+use Rattle.muxer_killq.specs.Queue.{killq, MuxerKillQ}
 use Rattle.muxer_killq.specs.Push.{PushIn, PushSays}
 use Rattle.muxer_killq.specs.Pop.{PopIn, PopLeft, PopSays}
 use Rattle.muxer_killq.specs.Build.{BuildIn, BuildSays}
 use Rattle.muxer_killq.specs.Outcomes.{Sound}
-use Rattle.muxer_killq.specs.declared.killq.MuxerKillQ.{MuxerKillQ}
 
 -- K, 1 to 128
 abbrev pub InRange : ℕ → Type 0

@@ -2,14 +2,13 @@
 use Rattle.std.specs.Prelude.{ℕ, ◌≡◌, Bool, not, ◌&&◌, List, leb, ltb, eqb, length, take}
 use Rattle.defs.specs.Ladder.{clock_answer}
 use Rattle.defs.specs.Limits.{is_killq_limit}
-use Rattle.defs.specs.declared.answer.Answer.{Answer}
 use Rattle.conn_map.specs.Table.{Slot, slots_of, gathered, sound_table}
 use Rattle.queue.specs.Queued.{QueuedLeft, made_of}
-use Rattle.muxer_killq.specs.Queue.{killq, pack}
+use Rattle.muxer_killq.specs.Queue.{killq, pack, MuxerKillQ}
 use Rattle.muxer_killq.specs.Push.{item_at}
 use Rattle.muxer_killq.specs.Sort.{sort_by_time}
 use Rattle.muxer_killq.specs.declared.item.MuxerKillQItem.{MuxerKillQItem}
-use Rattle.muxer_killq.specs.declared.killq.MuxerKillQ.{MuxerKillQ}
+use Rattle.defs.specs.Answer.{Answer}
 
 -- a used slot whose time is after now
 abbrev pub is_ahead : ℕ → Slot → Bool

@@ -1,19 +1,18 @@
 -- The reading of 01 that the kill queue decides, its share of i; what a build makes of equal times; and one from as many slots as the limit, and from
 -- one more. Assumes nothing.
-use Rattle.std.specs.Prelude.{ℕ, ◌+◌, ◌*◌, ◌^◌, true, false, List, [], ◌∷◌, take}
-use Rattle.defs.specs.Answer.{told}
+use Rattle.std.specs.Prelude.{ℕ, ◌+◌, ◌*◌, ◌^◌, true, false, List, [], ◌∷◌, take, Err}
+use Rattle.defs.specs.Answer.{told, done}
 use Rattle.defs.specs.Reading.{Reading, ◌reads◌}
-use Rattle.defs.specs.declared.answer.Answer.TheVariants.{Done, BadRecord, BadClock}
+use Rattle.defs.specs.declared.answer.Refusal.TheVariants.{BadRecord, BadClock}
 use Rattle.conn_map.specs.Table.{Slot}
 use Rattle.conn_map.specs.declared.key.ConnMapKey.{ConnMapKey}
 use Rattle.queue.specs.Queued.{QueuedLeft}
-use Rattle.muxer_killq.specs.Queue.{pack}
+use Rattle.muxer_killq.specs.Queue.{pack, MuxerKillQ}
 use Rattle.muxer_killq.specs.Push.{item_at}
 use Rattle.muxer_killq.specs.Pop.{no_key, pop_of}
 use Rattle.muxer_killq.specs.Sort.{sort_by_time}
 use Rattle.muxer_killq.specs.Build.{ahead_of, build_of}
 use Rattle.muxer_killq.specs.declared.item.MuxerKillQItem.{MuxerKillQItem}
-use Rattle.muxer_killq.specs.declared.killq.MuxerKillQ.{MuxerKillQ}
 
 -- a queue of limit 1 with one item, at 500
 abbrev key : ConnMapKey
@@ -25,8 +24,8 @@ one = pack (item_at key 500 ∷ []) 1 true
 -- i: kill time 500: not popped at 500, popped at 501
 unfoldable pub reading_i : List Reading
 reading_i =
-    (pop_of (record { queue = one; clock = 500 }) reads record { answer = told Done; found = false; given = no_key; queue = one })
-    ∷ (pop_of (record { queue = one; clock = 501 }) reads record { answer = told Done; found = true; given = key; queue = pack [] 1 true })
+    (pop_of (record { queue = one; clock = 500 }) reads record { answer = told done; found = false; given = no_key; queue = one })
+    ∷ (pop_of (record { queue = one; clock = 501 }) reads record { answer = told done; found = true; given = key; queue = pack [] 1 true })
     ∷ []
 
 -- a slot and its item, told by their local port
@@ -62,10 +61,10 @@ built limit clock times =
 -- K = 2, now 500: two slots have a later time, and three: the first two, by time, and unsynced; none has; limits 0 and 129; a clock past the last
 unfoldable pub builds : List Reading
 builds =
-    (built 2 500 (700 ∷ 500 ∷ 600 ∷ 600 ∷ []) reads record { answer = told Done; queue = pack (kill_of 3 600 ∷ kill_of 1 700 ∷ []) 2 true })
-    ∷ (built 2 500 (700 ∷ 650 ∷ 600 ∷ 600 ∷ []) reads record { answer = told Done; queue = pack (kill_of 2 650 ∷ kill_of 1 700 ∷ []) 2 false })
-    ∷ (built 2 500 (500 ∷ 0 ∷ 499 ∷ 600 ∷ []) reads record { answer = told Done; queue = pack [] 2 true })
-    ∷ (built 0 500 (700 ∷ 500 ∷ 600 ∷ 600 ∷ []) reads record { answer = told BadRecord; queue = pack [] 0 true })
-    ∷ (built 129 500 (700 ∷ 500 ∷ 600 ∷ 600 ∷ []) reads record { answer = told BadRecord; queue = pack [] 0 true })
-    ∷ (built 2 (2 ^ 62 + 1) (700 ∷ 500 ∷ 600 ∷ 600 ∷ []) reads record { answer = told BadClock; queue = pack [] 0 true })
+    (built 2 500 (700 ∷ 500 ∷ 600 ∷ 600 ∷ []) reads record { answer = told done; queue = pack (kill_of 3 600 ∷ kill_of 1 700 ∷ []) 2 true })
+    ∷ (built 2 500 (700 ∷ 650 ∷ 600 ∷ 600 ∷ []) reads record { answer = told done; queue = pack (kill_of 2 650 ∷ kill_of 1 700 ∷ []) 2 false })
+    ∷ (built 2 500 (500 ∷ 0 ∷ 499 ∷ 600 ∷ []) reads record { answer = told done; queue = pack [] 2 true })
+    ∷ (built 0 500 (700 ∷ 500 ∷ 600 ∷ 600 ∷ []) reads record { answer = told (Err BadRecord); queue = pack [] 0 true })
+    ∷ (built 129 500 (700 ∷ 500 ∷ 600 ∷ 600 ∷ []) reads record { answer = told (Err BadRecord); queue = pack [] 0 true })
+    ∷ (built 2 (2 ^ 62 + 1) (700 ∷ 500 ∷ 600 ∷ 600 ∷ []) reads record { answer = told (Err BadClock); queue = pack [] 0 true })
     ∷ []

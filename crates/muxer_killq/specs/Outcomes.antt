@@ -9,13 +9,12 @@ use Rattle.queue.specs.Queued.{QueuedLeft}
 use Rattle.queue.specs.Look.{PeekLeft}
 use Rattle.queue.specs.Means as means
 use Rattle.muxer_killq.specs.Item.{is_alike}
-use Rattle.muxer_killq.specs.Queue.{killq, sound_q, items, NewSays}
+use Rattle.muxer_killq.specs.Queue.{killq, sound_q, items, NewSays, MuxerKillQ}
 use Rattle.muxer_killq.specs.Push.{PushIn, PushSays}
 use Rattle.muxer_killq.specs.Pop.{PeekSays, PopIn, PopLeft, PopSays}
 use Rattle.muxer_killq.specs.Build.{BuildIn, BuildSays}
 use Rattle.muxer_killq.specs.Promises.{Sorted}
 use Rattle.muxer_killq.specs.declared.item.MuxerKillQItem.{MuxerKillQItem}
-use Rattle.muxer_killq.specs.declared.killq.MuxerKillQ.{MuxerKillQ}
 
 -- the zero item: ports 0, time 0
 abbrev pub nothing : MuxerKillQItem

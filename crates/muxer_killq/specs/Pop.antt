@@ -1,13 +1,12 @@
 -- `peek` and `pop` (01, "The two queues"). Assumes nothing.
 use Rattle.std.specs.Prelude.{ℕ, ◌≡◌, Bool, ltb}
 use Rattle.defs.specs.Ladder.{clock_answer}
-use Rattle.defs.specs.declared.answer.Answer.{Answer}
 use Rattle.conn_map.specs.declared.key.ConnMapKey.{ConnMapKey}
 use Rattle.queue.specs.Look.{PeekLeft, peek_of}
 use Rattle.queue.specs.Pop as pops
-use Rattle.muxer_killq.specs.Queue.{killq, sound_q}
+use Rattle.muxer_killq.specs.Queue.{killq, sound_q, MuxerKillQ}
 use Rattle.muxer_killq.specs.declared.item.MuxerKillQItem.{MuxerKillQItem}
-use Rattle.muxer_killq.specs.declared.killq.MuxerKillQ.{MuxerKillQ}
+use Rattle.defs.specs.Answer.{Answer}
 
 -- THE STATEMENT of `peek`: the front, whatever its time
 abbrev pub PeekSays : MuxerKillQ → PeekLeft MuxerKillQItem → Type 0

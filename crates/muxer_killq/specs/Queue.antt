@@ -1,22 +1,21 @@
 -- The kill queue as a queue (01, "The numbers of a connection", "The two queues"): what it has of its own, and by that what `queue` says of any. Assumes nothing.
-use Rattle.std.specs.Prelude.{ℕ, ◌≡◌, Bool, List}
-use Rattle.defs.specs.Limits.{max_killq, is_killq_limit}
+use Rattle.std.specs.Prelude.{ℕ, Bool, List}
+use Rattle.defs.specs.Limits.{max_killq}
+use Rattle.queue.specs.Arrays.{arrays}
 use Rattle.queue.specs.Queue as queues
-use Rattle.queue.specs.Queued.{QueuedLeft, new_of}
+use Rattle.queue.specs.Queued as queued
+use Rattle.queue.specs.Queued.{QueuedLeft}
+use Rattle.queue.specs.declared.queue.Queue.{Queue}
 use Rattle.muxer_killq.specs.Item.{zero_item, is_zero}
 use Rattle.muxer_killq.specs.declared.item.MuxerKillQItem.{MuxerKillQItem}
-use Rattle.muxer_killq.specs.declared.killq.MuxerKillQ.{MuxerKillQ}
+
+-- the kill queue of the code: `MuxerKillQ` of src/killq.rt
+abbrev pub MuxerKillQ : Type 0
+MuxerKillQ = Queue MuxerKillQItem max_killq
 
 -- its record, its zero item, its places and its limits
 abbrev pub killq : queues.Kind MuxerKillQ MuxerKillQItem
-killq = record {
-  seen = λ q. record { places = q.q; len = q.len; limit = q.limit; synced = q.synced };
-  made = λ q. record { q = q.places; len = q.len; limit = q.limit; synced = q.synced };
-  zero_item = zero_item;
-  is_zero = is_zero;
-  size = max_killq;
-  is_limit = is_killq_limit;
-}
+killq = arrays max_killq zero_item is_zero
 
 -- the limit in range, the length within it, zero items past the length
 abbrev pub sound_q : MuxerKillQ → Bool
@@ -32,4 +31,4 @@ pack l limit synced = queues.pack killq l limit synced
 
 -- THE STATEMENT of `new`: an empty, synced queue, of limit 0 where it is refused
 abbrev pub NewSays : ℕ → QueuedLeft MuxerKillQ → Type 0
-NewSays limit left = left ≡ new_of killq limit
+NewSays limit left = queued.NewSays killq limit left

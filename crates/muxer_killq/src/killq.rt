@@ -1,103 +1,78 @@
-// The queue's record: what is sound, and the calls that only look at it.
-ghost use Rattle.std.specs.Prelude.{◌≡◌, true, []};
+// What the kill queue does beside what every queue does.
+ghost use Rattle.std.specs.Prelude.{◌≡◌};
 ghost use Rattle.defs.specs.Answer.{told};
-ghost use Rattle.defs.specs.Look.{FlagLeft};
-ghost use Rattle.queue.specs.Queue.{clear_q};
-ghost use Rattle.queue.specs.Queued.{QueuedLeft};
-ghost use Rattle.queue.specs.Look.{SyncedSays, EmptySays, FullSays};
-ghost use Rattle.muxer_killq.specs.Queue.{killq, sound_q, pack, NewSays};
+ghost use Rattle.queue.specs.Pop.{pop_seen};
+ghost use Rattle.muxer_killq.specs.Push.{PushIn, PushSays};
+ghost use Rattle.muxer_killq.specs.Pop.{no_key, PopIn, PopSays};
+ghost use Rattle.muxer_killq.specs.Build.{BuildIn, BuildSays};
 
-use crate::item::{MuxerKillQItem, is_zero};
-use defs::limits::MAX_KILLQ_SIZE;
-use defs::{Answer, Flag, limits};
+use crate::build;
+use crate::item::MuxerKillQItem;
+use conn_map::ConnMapKey;
+use defs::limits::{self, MAX_KILLQ_SIZE};
+use queue::Queue;
 
-// The places from `len` on hold the zero item.
-#[derive(Clone, Copy)]
-pub struct MuxerKillQ {
-    pub q: [MuxerKillQItem; MAX_KILLQ_SIZE],
-    pub len: usize,
-    pub limit: usize,
-    pub synced: bool,
+pub type MuxerKillQ = Queue<MuxerKillQItem, MAX_KILLQ_SIZE>;
+
+pub type Queued = queue::Queued<MuxerKillQItem, MAX_KILLQ_SIZE>;
+
+// What is given of an item are its ports.
+pub type Popped = queue::Popped<ConnMapKey, MuxerKillQItem, MAX_KILLQ_SIZE>;
+
+// What the kill queue has beside `Queue`'s own calls.
+pub trait KillQueue: Sized {
+    // The queue of a table: `used` is 0 for no, a time 0 is none.
+    fn from_conn_map(limit: usize, clock: u64, ports: &[u64], used: &[u8], times: &[u64]) -> Queued;
+
+    // Behind all others whatever the time: a push that is turned down loses sync.
+    fn push(self, key: ConnMapKey, kill_time: u64) -> Queued;
+
+    // Only the front is looked at: an item behind it whose time has passed waits.
+    fn pop(self, clock: u64) -> Popped;
 }
 
-#[derive(Clone, Copy)]
-pub struct Queued {
-    pub answer: Answer,
-    pub queue: MuxerKillQ,
-}
-
-impl MuxerKillQ {
-    // An empty, synced queue of a given limit; of limit 0 where no queue has that limit.
-    pub fn new(limit: usize) -> Queued
-        ensures { NewSays limit (record { answer = told result.answer; queue = result.queue }) }
+impl KillQueue for MuxerKillQ {
+    fn from_conn_map(limit: usize, clock: u64, ports: &[u64], used: &[u8], times: &[u64]) -> Queued
+        ensures { BuildSays (record { limit = limit; clock = clock; ports = ports.now; used = used.now; times = times.now }) (record { answer = told result.answer; queue = result.queue }) }
     {
-        let answer = defs::record_answer(limits::is_killq_limit(limit));
-        let Answer::Done = answer else {
+        let limited = limits::is_killq_limit(limit);
+        let sound = conn_map::is_sound(ports, used, times.len());
+        let answer = defs::clock_answer(limited & sound, clock);
+        let Ok(()) = answer else {
             return Queued {
                 answer,
-                queue: empty(0),
+                queue: Queue::empty(0),
             };
         };
-        Queued {
-            answer,
-            queue: empty(limit),
+        let mut queue = build::collect(limit, clock, ports, used, times);
+        let len = queue.len;
+        build::sort(&mut queue.q, len);
+        Queued { answer, queue }
+    }
+
+    fn push(self, key: ConnMapKey, kill_time: u64) -> Queued
+        ensures { PushSays (record { queue = self; key = key; kill_time = kill_time }) (record { answer = told result.answer; queue = result.queue }) }
+    {
+        self.push_back(MuxerKillQItem::at(key, kill_time))
+    }
+
+    fn pop(self, clock: u64) -> Popped
+        ensures { PopSays (record { queue = self; clock = clock }) (pop_seen no_key result.given result.queue) }
+    {
+        let due = self.front().filter(|front| front.kill_time < clock);
+        match defs::clock_answer(self.is_sound(), clock).and(Ok(due)) {
+            Ok(Some(front)) => Popped {
+                given: Ok(Some(front.key())),
+                queue: self.pop_front().queue,
+            },
+            Ok(None) => Popped {
+                given: Ok(None),
+                queue: self,
+            },
+            Err(refusal) => Popped {
+                given: Err(refusal),
+                queue: self,
+            },
         }
     }
-
-    pub(crate) fn is_sound(self) -> bool
-        ensures { result ≡ sound_q self }
-    {
-        limits::is_killq_limit(self.limit) & (self.len <= self.limit) & is_clear(self)
-    }
-
-    pub fn is_synced(self) -> Flag
-        ensures { SyncedSays killq self (record { answer = told result.answer; holds = result.holds }) }
-    {
-        defs::flag_of(defs::record_answer(self.is_sound()), self.synced)
-    }
-
-    pub fn is_empty(self) -> Flag
-        ensures { EmptySays killq self (record { answer = told result.answer; holds = result.holds }) }
-    {
-        defs::flag_of(defs::record_answer(self.is_sound()), self.len == 0)
-    }
-
-    pub fn is_full(self) -> Flag
-        ensures { FullSays killq self (record { answer = told result.answer; holds = result.holds }) }
-    {
-        defs::flag_of(defs::record_answer(self.is_sound()), self.len == self.limit)
-    }
-}
-
-// An empty, synced queue.
-pub(crate) fn empty(limit: usize) -> MuxerKillQ
-    ensures { result ≡ pack [] limit true }
-{
-    let zero = MuxerKillQItem {
-        local_port: 0,
-        peer_port: 0,
-        kill_time: 0,
-    };
-    let q = [zero; MAX_KILLQ_SIZE];
-    MuxerKillQ {
-        q,
-        len: 0,
-        limit,
-        synced: true,
-    }
-}
-
-// Whether every place past the length holds the zero item.
-fn is_clear(queue: MuxerKillQ) -> bool
-    ensures { result ≡ clear_q killq queue }
-{
-    let mut i = queue.len;
-    while i < MAX_KILLQ_SIZE {
-        let it = queue.q[i];
-        if !is_zero(it) {
-            return false;
-        }
-        i += 1;
-    }
-    true
 }

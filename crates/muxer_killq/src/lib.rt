@@ -6,9 +6,6 @@
 mod build;
 mod item;
 mod killq;
-mod pop;
-mod push;
 
 pub use item::MuxerKillQItem;
-pub use killq::{MuxerKillQ, Queued};
-pub use pop::{Peeked, Popped};
+pub use killq::{KillQueue, MuxerKillQ, Popped, Queued};

@@ -17,7 +17,7 @@ use Rattle.muxer_rxq.specs.Build.{build_answer, build_of}
 use Rattle.muxer_rxq.specs.Outcomes.{Sound}
 use Rattle.muxer_rxq.specs.Answers.{InRange, LookAnswers, NewAnswers, PopAnswers, TurnedDown, PushAnswers, BuildAnswers}
 use Rattle.muxer_rxq.specs.declared.rxq.MuxerRx.{MuxerRx}
-use Rattle.muxer_rxq.proofs.QueueLaws.{in_range, sound_means}
+use Rattle.muxer_rxq.proofs.QueueLaws.{in_range, limit_means, sound_means}
 use Rattle.muxer_rxq.proofs.OutcomeLaws.{every_last_conn_means}
 
 pub look_answers : LookAnswers
@@ -53,4 +53,4 @@ push_answers i =
 pub build_answers : BuildAnswers
 unfolding build_of build_answer
 build_answers i left says =
-    by_record _ _ _ (answers.made_told rxq _ _ left says) (and_means (in_range i.limit) (table_means i.ports i.used (length i.pending)))
+    by_record _ _ _ (answers.made_told rxq _ _ left says) (and_means (limit_means i.limit) (table_means i.ports i.used (length i.pending)))

@@ -11,10 +11,9 @@ use borrow.Author.Tests.{leb-false, lt-leb, eqb-true, eqb-false, eq-eqb, ne_eqb}
 use lib.Dec.{leb, eqb}
 use lib.ListN.{length, get_or, take, set}
 use Rattle.defs.specs.Choice.{when}
-use Rattle.defs.specs.Answer.{told}
+use Rattle.defs.specs.Answer.{told, Answer, done}
 use Rattle.defs.specs.Promises.{Refuses}
-use Rattle.defs.specs.declared.answer.Answer.{Answer}
-use Rattle.defs.specs.declared.answer.Answer.TheVariants.{Done, NotQueued}
+use Rattle.defs.specs.declared.answer.Refusal.TheVariants.{NotQueued}
 use Rattle.defs.proofs.Basics.{never, lt_or_ge, positive}
 use Rattle.defs.proofs.AnswerLaws.{done_passes}
 use Rattle.defs.proofs.ChoiceLaws.{when_true, when_false, when_holds}
@@ -27,13 +26,14 @@ use Rattle.queue.specs.Pop.{pop_of}
 use Rattle.queue.proofs.QueueLaws.{queue_is_its_list, sound_says}
 use Rattle.queue.proofs.AnswerLaws as answers
 use Rattle.queue.proofs.EveryLaws as every
-use Rattle.muxer_rxq.specs.Queue.{zero_item, rxq, items, pack}
+use Rattle.muxer_rxq.specs.Item.{zero_item}
+use Rattle.muxer_rxq.specs.Queue.{rxq, items, pack, MuxerRxQ}
 use Rattle.muxer_rxq.specs.Push.{last_conn, evict_list, push_list}
 use Rattle.muxer_rxq.specs.Build.{pending_of, built_from, BuildIn, build_of}
 use Rattle.muxer_rxq.specs.Outcomes.{RefusalsChangeNothing, RefusedIsEmpty, EveryNewIsEmpty, pends_at, conn_at, BuiltMeans, BuiltHolds, RearmostAt, AllRsts, EveryLastConnMeans, EveryPushMeans, EveryPeekMeans, EveryPopMeans}
 use Rattle.muxer_rxq.specs.declared.rxq.MuxerRx.{MuxerRx}
-use Rattle.muxer_rxq.specs.declared.rxq.MuxerRxQ.{MuxerRxQ}
 use Rattle.muxer_rxq.proofs.QueueLaws.{lawful}
+use Rattle.std.specs.Prelude.{Err}
 
 -- ---- refusals
 
@@ -45,7 +45,7 @@ not_refusing rx l limit synced =
     (λ t. done_passes)
     (λ t. when_holds Keeps _ _ _ (λ r. when_holds Keeps _ _ _ (λ n. turned) (λ n. done_passes)) (λ r. turned))
   where
-    turned : Refuses (told NotQueued) → ⊥
+    turned : Refuses (told (Err NotQueued)) → ⊥
     turned r = omega (arith, r.1)
 
 pub refusals_change_nothing : RefusalsChangeNothing
@@ -187,7 +187,7 @@ every_push_means i o e g =
           (when_false _ _ _ (answers.no_room rxq q n)
           ∙ when_true _ _ _ r
           ∙ when_false _ _ _ (ne_eqb (last_conn l) 0 (λ z. omega arith))
-          ∙ ap (λ (k : ℕ). leaves Done (set l k i.rx) false) (let z : last_conn l - 1 ≡ m = omega arith in z));
+          ∙ ap (λ (k : ℕ). leaves done (set l k i.rx) false) (let z : last_conn l - 1 ≡ m = omega arith in z));
       all_rsts =
           λ n r a.
           every.push_stays rxq lawful q g (push_list i.rx) o e

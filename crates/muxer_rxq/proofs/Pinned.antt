@@ -1,44 +1,21 @@
--- Every public call is pinned by its own contract, which only proofs/ can name (`Learnt`: what a caller learns of it). Assumes nothing.
+-- Every public call of this queue's own is pinned by its own contract, which only proofs/ can name (`Learnt`: what a caller learns of it); those that every queue has by `EachQueueCallPinned` of `queue`. Assumes nothing.
 use Rattle.defs.specs.Answer.{told}
 use Rattle.defs.specs.Pinned.{Pinned}
-use Rattle.defs.specs.Look.{FlagLeft, LenLeft}
-use Rattle.queue.specs.Look.{PeekLeft}
-use Rattle.queue.specs.Queued.{QueuedLeft}
-use Rattle.muxer_rxq.specs.Pop.{PopLeft}
-use Rattle.muxer_rxq.specs.declared.rxq.MuxerRx.{MuxerRx}
-use Rattle.muxer_rxq.specs.declared.rxq.MuxerRxQ.{MuxerRxQ}
 use Rattle.defs.proofs.Pins.{by_equation}
-use Rattle.muxer_rxq.proofs.rxq.MuxerRxQ.new.Reads as new
-use Rattle.muxer_rxq.proofs.rxq.MuxerRxQ.from_conn_map.Reads as from_conn_map
-use Rattle.muxer_rxq.proofs.rxq.MuxerRxQ.push.Reads as push
-use Rattle.muxer_rxq.proofs.rxq.MuxerRxQ.peek.Reads as peek
-use Rattle.muxer_rxq.proofs.rxq.MuxerRxQ.pop.Reads as pop
-use Rattle.muxer_rxq.proofs.rxq.MuxerRxQ.is_synced.Reads as is_synced
-use Rattle.muxer_rxq.proofs.rxq.MuxerRxQ.len.Reads as len
-use Rattle.muxer_rxq.proofs.rxq.MuxerRxQ.is_empty.Reads as is_empty
-use Rattle.muxer_rxq.proofs.rxq.MuxerRxQ.is_full.Reads as is_full
+use Rattle.queue.specs.Queued.{QueuedLeft}
+use Rattle.queue.specs.Pop.{pop_seen}
+use Rattle.muxer_rxq.specs.Item.{zero_item}
+use Rattle.muxer_rxq.specs.Pop.{PopLeft}
+use Rattle.muxer_rxq.specs.Queue.{MuxerRxQ}
+use Rattle.muxer_rxq.proofs.rxq.MuxerRxQRxQueue.from_conn_map.Reads as from_conn_map
+use Rattle.muxer_rxq.proofs.rxq.MuxerRxQRxQueue.push.Reads as push
+use Rattle.muxer_rxq.proofs.rxq.MuxerRxQRxQueue.pop.Reads as pop
 
 -- any two outcomes that meet a call's contract are identical: what it gives back, its answer by `told`
 pub record EachCallPinned : Type 0 where
-  pub new : Pinned new.Learnt (QueuedLeft MuxerRxQ) (λ l r e. record { answer = told r.answer; queue = r.queue })
   pub from_conn_map : Pinned from_conn_map.Learnt (QueuedLeft MuxerRxQ) (λ l r e. record { answer = told r.answer; queue = r.queue })
   pub push : Pinned push.Learnt (QueuedLeft MuxerRxQ) (λ l r e. record { answer = told r.answer; queue = r.queue })
-  pub peek : Pinned peek.Learnt (PeekLeft MuxerRx) (λ l r e. record { answer = told r.answer; found = r.found; item = r.item })
-  pub pop : Pinned pop.Learnt PopLeft (λ l r e. record { answer = told r.answer; found = r.found; given = r.item; queue = r.queue })
-  pub is_synced : Pinned is_synced.Learnt FlagLeft (λ l r e. record { answer = told r.answer; holds = r.holds })
-  pub len : Pinned len.Learnt LenLeft (λ l r e. record { answer = told r.answer; len = r.len })
-  pub is_empty : Pinned is_empty.Learnt FlagLeft (λ l r e. record { answer = told r.answer; holds = r.holds })
-  pub is_full : Pinned is_full.Learnt FlagLeft (λ l r e. record { answer = told r.answer; holds = r.holds })
+  pub pop : Pinned pop.Learnt PopLeft (λ l r e. pop_seen zero_item r.given r.queue)
 
 pub each_call_pinned : EachCallPinned
-each_call_pinned = record {
-  new = by_equation _ _ _;
-  from_conn_map = by_equation _ _ _;
-  push = by_equation _ _ _;
-  peek = by_equation _ _ _;
-  pop = by_equation _ _ _;
-  is_synced = by_equation _ _ _;
-  len = by_equation _ _ _;
-  is_empty = by_equation _ _ _;
-  is_full = by_equation _ _ _;
-}
+each_call_pinned = record { from_conn_map = by_equation _ _ _; push = by_equation _ _ _; pop = by_equation _ _ _ }

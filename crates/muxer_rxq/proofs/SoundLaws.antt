@@ -1,13 +1,12 @@
 -- What the calls leave is sound. Assumes nothing.
 use Prim.Native.Nat.{ℕ, ◌-◌, ◌≤◌}
-use mathlib.Core.Path.{◌≡◌, refl}
+use mathlib.Core.Path.{◌≡◌, refl, sym, ◌∙◌}
 use mathlib.Core.Bool.{Bool, true}
 use mathlib.Core.List.{List}
 use native.Mathlib.Omega.{arith}
 use lib.Dec.{eqb}
 use lib.ListN.{length, take, length-take, length-set}
 use Rattle.defs.specs.Limits.{is_rxq_limit}
-use Rattle.defs.specs.declared.answer.Answer.TheVariants.{Done}
 use Rattle.defs.proofs.Basics.{both}
 use Rattle.defs.proofs.ChoiceLaws.{when_holds}
 use Rattle.defs.proofs.LadderLaws.{record_passed}
@@ -21,13 +20,14 @@ use Rattle.muxer_rxq.specs.Push.{last_conn, evict_list, push_list}
 use Rattle.muxer_rxq.specs.Build.{pending_of, built_from, BuildIn, build_answer, build_of}
 use Rattle.muxer_rxq.specs.Outcomes.{SoundStaysSound}
 use Rattle.muxer_rxq.specs.declared.rxq.MuxerRx.{MuxerRx}
-use Rattle.muxer_rxq.proofs.QueueLaws.{lawful, sound_means}
+use Rattle.muxer_rxq.proofs.QueueLaws.{lawful, limit_is, sound_means}
+use Rattle.defs.specs.Answer.{done}
 
-built_sound : (i : BuildIn) → build_answer i ≡ Done → sound_q (built_from i.limit (slots_of i.ports i.used i.pending)) ≡ true
+built_sound : (i : BuildIn) → build_answer i ≡ done → sound_q (built_from i.limit (slots_of i.ports i.used i.pending)) ≡ true
 unfolding built_from build_answer
 built_sound i d =
     let l = pending_of (slots_of i.ports i.used i.pending) in
-    (queue_is_its_list rxq lawful).packed_sound (take i.limit l) i.limit _ (both (is_rxq_limit i.limit) _ (record_passed _ _ refl d)).0 (omega (arith, length-take i.limit l))
+    (queue_is_its_list rxq lawful).packed_sound (take i.limit l) i.limit _ (sym (limit_is i.limit) ∙ (both (is_rxq_limit i.limit) _ (record_passed _ _ refl d)).0) (omega (arith, length-take i.limit l))
 
 -- what a push leaves is within the limit
 push_within : (rx : MuxerRx) (l : List MuxerRx) (limit : ℕ) (synced : Bool) → length l ≤ limit → length (push_list rx l limit synced).list ≤ limit

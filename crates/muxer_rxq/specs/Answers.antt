@@ -7,12 +7,11 @@ use Rattle.queue.specs.Queued.{QueuedLeft}
 use Rattle.queue.specs.Means.{Room}
 use Rattle.queue.specs.Answers as answers
 use Rattle.queue.specs.Answers.{sound_rows, push_rows}
-use Rattle.muxer_rxq.specs.Queue.{rxq, items}
+use Rattle.muxer_rxq.specs.Queue.{rxq, items, MuxerRxQ}
 use Rattle.muxer_rxq.specs.Push.{PushIn, PushSays}
 use Rattle.muxer_rxq.specs.Pop.{PopLeft, PopSays}
 use Rattle.muxer_rxq.specs.Build.{BuildIn, BuildSays}
 use Rattle.muxer_rxq.specs.Outcomes.{Sound, AllRsts}
-use Rattle.muxer_rxq.specs.declared.rxq.MuxerRxQ.{MuxerRxQ}
 
 -- Q, 1 to 512
 abbrev pub InRange : ℕ → Type 0

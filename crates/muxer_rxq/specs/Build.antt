@@ -2,13 +2,12 @@
 use Rattle.std.specs.Prelude.{ℕ, ◌≡◌, Bool, false, not, ◌&&◌, List, leb, eqb, length, take}
 use Rattle.defs.specs.Ladder.{record_answer}
 use Rattle.defs.specs.Limits.{is_rxq_limit}
-use Rattle.defs.specs.declared.answer.Answer.{Answer}
 use Rattle.conn_map.specs.Table.{Slot, slots_of, gathered, sound_table}
 use Rattle.conn_map.specs.declared.key.ConnMapKey.{ConnMapKey}
 use Rattle.queue.specs.Queued.{QueuedLeft, made_of}
-use Rattle.muxer_rxq.specs.Queue.{rxq, pack}
+use Rattle.muxer_rxq.specs.Queue.{rxq, pack, MuxerRxQ}
 use Rattle.muxer_rxq.specs.declared.rxq.MuxerRx.{MuxerRx}
-use Rattle.muxer_rxq.specs.declared.rxq.MuxerRxQ.{MuxerRxQ}
+use Rattle.defs.specs.Answer.{Answer}
 
 -- a used slot with RX pending
 abbrev pub is_pending : Slot → Bool

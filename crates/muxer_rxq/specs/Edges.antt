@@ -1,16 +1,15 @@
 -- The readings of 01 that the RX queue decides: j (Q = 2), the limits on both sides of Q's, and a build from the largest table; and a build with as many slots pending as the limit, and with one more. Assumes nothing.
-use Rattle.std.specs.Prelude.{ℕ, ◌+◌, ◌*◌, ◌^◌, Bool, true, false, List, [], ◌∷◌, replicate}
-use Rattle.defs.specs.Answer.{told}
+use Rattle.std.specs.Prelude.{ℕ, ◌+◌, ◌*◌, ◌^◌, Bool, true, false, List, [], ◌∷◌, replicate, Err}
+use Rattle.defs.specs.Answer.{told, done}
 use Rattle.defs.specs.Reading.{Reading, ◌reads◌}
-use Rattle.defs.specs.declared.answer.Answer.TheVariants.{Done, BadRecord, NotQueued}
+use Rattle.defs.specs.declared.answer.Refusal.TheVariants.{BadRecord, NotQueued}
 use Rattle.conn_map.specs.Edges.{last_two}
 use Rattle.queue.specs.Queued.{QueuedLeft, new_of}
-use Rattle.muxer_rxq.specs.Queue.{rxq, pack}
+use Rattle.muxer_rxq.specs.Queue.{rxq, pack, MuxerRxQ}
 use Rattle.muxer_rxq.specs.Push.{push_of}
 use Rattle.muxer_rxq.specs.Pop.{PopLeft, pop_of}
 use Rattle.muxer_rxq.specs.Build.{build_of}
 use Rattle.muxer_rxq.specs.declared.rxq.MuxerRx.{MuxerRx}
-use Rattle.muxer_rxq.specs.declared.rxq.MuxerRxQ.{MuxerRxQ}
 
 -- a connection and an RST, told by their local port
 abbrev conn : ℕ → MuxerRx
@@ -34,11 +33,11 @@ popped = pop_of after_s.queue
 -- j: [C1 C2]: RST r gives [C1 r], s gives [s r], a third 11; pop, then an RST: 11, not full
 unfoldable pub reading_j : List Reading
 reading_j =
-    (after_r reads record { answer = told Done; queue = two (conn 1) (rst 8) false })
-    ∷ (after_s reads record { answer = told Done; queue = two (rst 9) (rst 8) false })
-    ∷ (push_of (record { queue = after_s.queue; rx = rst 10 }) reads record { answer = told NotQueued; queue = two (rst 9) (rst 8) false })
-    ∷ (popped reads record { answer = told Done; found = true; given = rst 9; queue = pack (rst 8 ∷ []) 2 false })
-    ∷ (push_of (record { queue = popped.queue; rx = rst 10 }) reads record { answer = told NotQueued; queue = pack (rst 8 ∷ []) 2 false })
+    (after_r reads record { answer = told done; queue = two (conn 1) (rst 8) false })
+    ∷ (after_s reads record { answer = told done; queue = two (rst 9) (rst 8) false })
+    ∷ (push_of (record { queue = after_s.queue; rx = rst 10 }) reads record { answer = told (Err NotQueued); queue = two (rst 9) (rst 8) false })
+    ∷ (popped reads record { answer = told done; found = true; given = rst 9; queue = pack (rst 8 ∷ []) 2 false })
+    ∷ (push_of (record { queue = popped.queue; rx = rst 10 }) reads record { answer = told (Err NotQueued); queue = pack (rst 8 ∷ []) 2 false })
     ∷ []
 
 -- the ports of a slot, and its connection, told by the local port; the peer port is 7
@@ -55,10 +54,10 @@ built limit pending =
 
 -- what is answered with a queue; answer 1 with an empty, synced one of limit 0
 abbrev gives : MuxerRxQ → QueuedLeft MuxerRxQ
-gives queue = record { answer = told Done; queue = queue }
+gives queue = record { answer = told done; queue = queue }
 
 abbrev refused : QueuedLeft MuxerRxQ
-refused = record { answer = told BadRecord; queue = pack [] 0 true }
+refused = record { answer = told (Err BadRecord); queue = pack [] 0 true }
 
 -- Q = 2: two slots pending, and three: the first two, and unsynced; none pending; limits 0 and 513
 unfoldable pub builds : List Reading

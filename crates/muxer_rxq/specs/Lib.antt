@@ -1,3 +1,4 @@
+pub mod Item
 pub mod Queue
 pub mod Push
 pub mod Pop

@@ -6,12 +6,11 @@ use Rattle.conn_map.specs.Order.{count_below, among_first, SmallerOf, InSlotOrde
 use Rattle.queue.specs.Queued.{QueuedLeft}
 use Rattle.queue.specs.Look.{PeekLeft}
 use Rattle.queue.specs.Means as means
-use Rattle.muxer_rxq.specs.Queue.{rxq, sound_q, items, NewSays}
+use Rattle.muxer_rxq.specs.Queue.{rxq, sound_q, items, NewSays, MuxerRxQ}
 use Rattle.muxer_rxq.specs.Push.{last_conn, PushIn, PushSays}
 use Rattle.muxer_rxq.specs.Pop.{PeekSays, PopLeft, PopSays}
 use Rattle.muxer_rxq.specs.Build.{BuildIn, BuildSays}
 use Rattle.muxer_rxq.specs.declared.rxq.MuxerRx.{MuxerRx}
-use Rattle.muxer_rxq.specs.declared.rxq.MuxerRxQ.{MuxerRxQ}
 
 -- the zero item: a connection, ports 0
 abbrev pub nothing : MuxerRx

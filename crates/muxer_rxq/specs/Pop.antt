@@ -3,9 +3,9 @@ use Rattle.std.specs.Prelude.{◌≡◌, true}
 use Rattle.defs.specs.Ladder.{record_answer}
 use Rattle.queue.specs.Look.{PeekLeft, peek_of}
 use Rattle.queue.specs.Pop as pops
-use Rattle.muxer_rxq.specs.Queue.{zero_item, rxq, sound_q}
+use Rattle.muxer_rxq.specs.Item.{zero_item}
+use Rattle.muxer_rxq.specs.Queue.{rxq, sound_q, MuxerRxQ}
 use Rattle.muxer_rxq.specs.declared.rxq.MuxerRx.{MuxerRx}
-use Rattle.muxer_rxq.specs.declared.rxq.MuxerRxQ.{MuxerRxQ}
 
 -- THE STATEMENT of `peek`
 abbrev pub PeekSays : MuxerRxQ → PeekLeft MuxerRx → Type 0

@@ -1,29 +1,21 @@
 -- The RX queue as a queue (01, "The numbers of a connection", "The two queues"): what it has of its own, and by that what `queue` says of any. Assumes nothing.
-use Rattle.std.specs.Prelude.{ℕ, ◌≡◌, Bool, false, not, ◌&&◌, List, eqb}
-use Rattle.defs.specs.Limits.{max_rxq, is_rxq_limit}
+use Rattle.std.specs.Prelude.{ℕ, Bool, List}
+use Rattle.defs.specs.Limits.{max_rxq}
+use Rattle.queue.specs.Arrays.{arrays}
 use Rattle.queue.specs.Queue as queues
-use Rattle.queue.specs.Queued.{QueuedLeft, new_of}
+use Rattle.queue.specs.Queued as queued
+use Rattle.queue.specs.Queued.{QueuedLeft}
+use Rattle.queue.specs.declared.queue.Queue.{Queue}
+use Rattle.muxer_rxq.specs.Item.{zero_item, is_zero}
 use Rattle.muxer_rxq.specs.declared.rxq.MuxerRx.{MuxerRx}
-use Rattle.muxer_rxq.specs.declared.rxq.MuxerRxQ.{MuxerRxQ}
 
--- the zero item: a connection, ports 0
-abbrev pub zero_item : MuxerRx
-zero_item = record { rst = false; local_port = 0; peer_port = 0 }
-
--- an item is the zero item
-unfoldable pub is_zero : MuxerRx → Bool
-is_zero it = (not it.rst && eqb it.local_port 0) && eqb it.peer_port 0
+-- the RX queue of the code: `MuxerRxQ` of src/rxq.rt
+abbrev pub MuxerRxQ : Type 0
+MuxerRxQ = Queue MuxerRx max_rxq
 
 -- its record, its zero item, its places and its limits
 abbrev pub rxq : queues.Kind MuxerRxQ MuxerRx
-rxq = record {
-  seen = λ q. record { places = q.q; len = q.len; limit = q.limit; synced = q.synced };
-  made = λ q. record { q = q.places; len = q.len; limit = q.limit; synced = q.synced };
-  zero_item = zero_item;
-  is_zero = is_zero;
-  size = max_rxq;
-  is_limit = is_rxq_limit;
-}
+rxq = arrays max_rxq zero_item is_zero
 
 -- the limit in range, the length within it, zero items past the length
 abbrev pub sound_q : MuxerRxQ → Bool
@@ -39,4 +31,4 @@ pack l limit synced = queues.pack rxq l limit synced
 
 -- THE STATEMENT of `new`: an empty, synced queue, of limit 0 where it is refused
 abbrev pub NewSays : ℕ → QueuedLeft MuxerRxQ → Type 0
-NewSays limit left = left ≡ new_of rxq limit
+NewSays limit left = queued.NewSays rxq limit left

@@ -4,9 +4,7 @@
 #![tactic(auto)]
 
 mod build;
-mod pop;
 mod push;
 mod rxq;
 
-pub use pop::{Peeked, Popped};
-pub use rxq::{MuxerRx, MuxerRxQ, Queued};
+pub use rxq::{MuxerRx, MuxerRxQ, Popped, Queued, RxQueue};

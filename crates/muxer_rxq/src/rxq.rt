@@ -1,132 +1,94 @@
-// The queue's record: what is sound, and the calls that only look at it.
-ghost use Rattle.std.specs.Prelude.{◌≡◌, true, []};
+// The queue's items, and what the queue does beside what every queue does.
+ghost use Rattle.std.specs.Prelude.{◌≡◌};
+ghost use Rattle.std.proofs.Common.{rules};
 ghost use Rattle.defs.specs.Answer.{told};
-ghost use Rattle.defs.specs.Look.{FlagLeft, LenLeft};
-ghost use Rattle.queue.specs.Queue.{clear_q};
-ghost use Rattle.queue.specs.Queued.{QueuedLeft};
-ghost use Rattle.queue.specs.Look.{SyncedSays, EmptySays, FullSays, LengthSays};
-ghost use Rattle.muxer_rxq.specs.Queue.{zero_item, is_zero, rxq, sound_q, pack, NewSays};
+ghost use Rattle.queue.specs.Pop.{pop_seen};
+ghost use Rattle.muxer_rxq.specs.Item.{zero_item, is_zero, zero_passes, zero_alone};
+ghost use Rattle.muxer_rxq.specs.Push.{PushIn, PushSays};
+ghost use Rattle.muxer_rxq.specs.Pop.{PopSays};
+ghost use Rattle.muxer_rxq.specs.Build.{BuildIn, BuildSays};
 
-use defs::limits::MAX_RXQ_SIZE;
-use defs::{Answer, Flag, Len, limits};
+use crate::{build, push};
+use defs::limits::{self, MAX_RXQ_SIZE};
+use queue::{Item, Queue};
 
 // What is queued: an RST, or a connection that has something for the guest.
-#[derive(Clone, Copy)]
+#[derive(Clone, Copy, Debug, Default, PartialEq, Eq)]
 pub struct MuxerRx {
     pub rst: bool,
     pub local_port: u32,
     pub peer_port: u32,
 }
 
-// The places from `len` on hold the zero item.
-#[derive(Clone, Copy)]
-pub struct MuxerRxQ {
-    pub q: [MuxerRx; MAX_RXQ_SIZE],
-    pub len: usize,
-    pub limit: usize,
-    pub synced: bool,
+impl Item for MuxerRx {
+    ghost zero_item = { zero_item };
+
+    ghost is_zero = { is_zero };
+
+    ghost zero_passes = { zero_passes };
+
+    ghost zero_alone = { zero_alone };
+
+    ghost default_is_zero = { Prim.search rules };
+
+    #[tactic(auto, unfolding(crate::specs::Item::is_zero))]
+    fn is_zero(self) -> bool {
+        self == MuxerRx::default()
+    }
 }
 
-#[derive(Clone, Copy)]
-pub struct Queued {
-    pub answer: Answer,
-    pub queue: MuxerRxQ,
+pub type MuxerRxQ = Queue<MuxerRx, MAX_RXQ_SIZE>;
+
+pub type Queued = queue::Queued<MuxerRx, MAX_RXQ_SIZE>;
+
+pub type Popped = queue::Popped<MuxerRx, MuxerRx, MAX_RXQ_SIZE>;
+
+// What the RX queue has beside `Queue`'s own calls. The kill queue's trait has the same names and
+// takes other things.
+pub trait RxQueue: Sized {
+    // The queue of a table: `used` and `pending` are 0 for no.
+    fn from_conn_map(limit: usize, ports: &[u64], used: &[u8], pending: &[u8]) -> Queued;
+
+    // Behind the others; where the queue takes nothing more, an RST takes the place of a connection,
+    // and what is turned down loses sync.
+    fn push(self, rx: MuxerRx) -> Queued;
+
+    // The front item. Sync is as it was, also where the queue has room again: only a build
+    // restores it.
+    fn pop(self) -> Popped;
 }
 
-impl MuxerRxQ {
-    // An empty, synced queue of a given limit; of limit 0 where no queue has that limit.
-    pub fn new(limit: usize) -> Queued
-        ensures { NewSays limit (record { answer = told result.answer; queue = result.queue }) }
+impl RxQueue for MuxerRxQ {
+    fn from_conn_map(limit: usize, ports: &[u64], used: &[u8], pending: &[u8]) -> Queued
+        ensures { BuildSays (record { limit = limit; ports = ports.now; used = used.now; pending = pending.now }) (record { answer = told result.answer; queue = result.queue }) }
     {
-        let answer = defs::record_answer(limits::is_rxq_limit(limit));
-        let Answer::Done = answer else {
+        let limited = limits::is_rxq_limit(limit);
+        let sound = conn_map::is_sound(ports, used, pending.len());
+        let answer = defs::record_answer(limited & sound);
+        let Ok(()) = answer else {
             return Queued {
                 answer,
-                queue: empty(0),
+                queue: Queue::empty(0),
             };
         };
         Queued {
             answer,
-            queue: empty(limit),
+            queue: build::walk(limit, ports, used, pending),
         }
     }
 
-    pub(crate) fn is_sound(self) -> bool
-        ensures { result ≡ sound_q self }
+    fn push(self, rx: MuxerRx) -> Queued
+        ensures { PushSays (record { queue = self; rx = rx }) (record { answer = told result.answer; queue = result.queue }) }
     {
-        limits::is_rxq_limit(self.limit) & (self.len <= self.limit) & is_clear(self)
-    }
-
-    pub fn is_synced(self) -> Flag
-        ensures { SyncedSays rxq self (record { answer = told result.answer; holds = result.holds }) }
-    {
-        defs::flag_of(defs::record_answer(self.is_sound()), self.synced)
-    }
-
-    pub fn len(self) -> Len
-        ensures { LengthSays rxq self (record { answer = told result.answer; len = result.len }) }
-    {
-        defs::len_of(defs::record_answer(self.is_sound()), self.len)
-    }
-
-    pub fn is_empty(self) -> Flag
-        ensures { EmptySays rxq self (record { answer = told result.answer; holds = result.holds }) }
-    {
-        defs::flag_of(defs::record_answer(self.is_sound()), self.len == 0)
-    }
-
-    pub fn is_full(self) -> Flag
-        ensures { FullSays rxq self (record { answer = told result.answer; holds = result.holds }) }
-    {
-        defs::flag_of(defs::record_answer(self.is_sound()), self.len == self.limit)
-    }
-}
-
-pub(crate) fn zero_item() -> MuxerRx
-    ensures { result ≡ zero_item }
-{
-    MuxerRx {
-        rst: false,
-        local_port: 0,
-        peer_port: 0,
-    }
-}
-
-// An empty, synced queue.
-pub(crate) fn empty(limit: usize) -> MuxerRxQ
-    ensures { result ≡ pack [] limit true }
-{
-    let zero = MuxerRx {
-        rst: false,
-        local_port: 0,
-        peer_port: 0,
-    };
-    let q = [zero; MAX_RXQ_SIZE];
-    MuxerRxQ {
-        q,
-        len: 0,
-        limit,
-        synced: true,
-    }
-}
-
-fn is_zero(it: MuxerRx) -> bool
-    ensures { result ≡ is_zero it }
-{
-    !it.rst & (it.local_port == 0) & (it.peer_port == 0)
-}
-
-// Whether every place past the length holds the zero item.
-fn is_clear(queue: MuxerRxQ) -> bool
-    ensures { result ≡ clear_q rxq queue }
-{
-    let mut i = queue.len;
-    while i < MAX_RXQ_SIZE {
-        let it = queue.q[i];
-        if !is_zero(it) {
-            return false;
+        if rx.rst && !queue::has_room(self.synced, self.len, self.limit) {
+            return push::evict(self, rx);
         }
-        i += 1;
+        self.push_back(rx)
     }
-    true
+
+    fn pop(self) -> Popped
+        ensures { PopSays self (pop_seen zero_item result.given result.queue) }
+    {
+        self.pop_front()
+    }
 }

@@ -7,9 +7,10 @@ use mathlib.Core.List.{List, [], append-nil}
 use native.Mathlib.Omega.{arith}
 use lib.ListN.{length, drop_of_length-le}
 use lib.Seq.{sets, sets-eq, take_all}
-use Rattle.defs.specs.Answer.{told}
+use Rattle.std.specs.Prelude.{Err}
+use Rattle.defs.specs.Answer.{told, done}
 use Rattle.defs.specs.Limits.{header_size, is_header_length}
-use Rattle.defs.specs.declared.answer.Answer.TheVariants.{Done, BadHeader}
+use Rattle.defs.specs.declared.answer.Refusal.TheVariants.{BadHeader}
 use Rattle.defs.proofs.Basics.{true_or_false}
 use Rattle.defs.proofs.LimitLaws.{header_length}
 use Rattle.defs.proofs.ChoiceLaws.{when_true, when_false}
@@ -47,21 +48,21 @@ encoded_decoded s b e = packed_unpacked layout s b (omega arith) ∙ take_all he
 
 -- ---- what the two calls leave, by the buffer's length
 
-pub decode_done : (s : List ℕ) → length s ≡ header_size → decode_of s ≡ record { answer = told Done; hdr = decoded s }
+pub decode_done : (s : List ℕ) → length s ≡ header_size → decode_of s ≡ record { answer = told done; hdr = decoded s }
 unfolding decode_of
 decode_done s e = when_true _ _ _ ((header_length (length s)).1 e)
 
 pub encode_done : (h : VsockPacketHdr) (out : List ℕ) → length out ≡ header_size
-    → encode_of (record { hdr = h; out = out }) ≡ record { answer = told Done; out = encoded h }
+    → encode_of (record { hdr = h; out = out }) ≡ record { answer = told done; out = encoded h }
 unfolding encode_of
 encode_done h out e = when_true _ _ _ ((header_length (length out)).1 e)
 
-pub decode_refused : (s : List ℕ) → is_header_length (length s) ≡ false → decode_of s ≡ record { answer = told BadHeader; hdr = of_fields [] }
+pub decode_refused : (s : List ℕ) → is_header_length (length s) ≡ false → decode_of s ≡ record { answer = told (Err BadHeader); hdr = of_fields [] }
 unfolding decode_of
 decode_refused s e = when_false _ _ _ e
 
 pub encode_refused : (h : VsockPacketHdr) (out : List ℕ) → is_header_length (length out) ≡ false
-    → encode_of (record { hdr = h; out = out }) ≡ record { answer = told BadHeader; out = out }
+    → encode_of (record { hdr = h; out = out }) ≡ record { answer = told (Err BadHeader); out = out }
 unfolding encode_of
 encode_refused h out e = when_false _ _ _ e
 

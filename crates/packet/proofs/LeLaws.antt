@@ -1,12 +1,13 @@
 -- Laws of little-endian numbers and of records of them, over the width and over the table of widths. Assumes nothing.
-use Prim.Native.Nat.{ℕ, zero, suc, ◌+◌, ◌*◌, ◌/◌, ◌%◌, ◌^◌, ◌-◌, ◌<◌, ◌≤◌}
-use mathlib.Core.Path.{◌≡◌, refl, ap}
+use Prim.Native.Nat.{ℕ, zero, suc, ◌+◌, ◌*◌, ◌/◌, ◌%◌, ◌^◌, ◌<◌, ◌≤◌}
+use mathlib.Core.Path.{◌≡◌, refl, ap, sym, ◌∙◌}
 use mathlib.Core.List.{List, [], ◌∷◌, ◌++◌, append_assoc}
 use native.Mathlib.Omega.{arith}
-use native.Mathlib.Numerals.{add-one, sub-one}
-use native.Mathlib.Nat.{pow-suc, div-add-mod', le_of_suc-le-suc, not-suc-le-zero, lt_of_lt_of_le, pow-le-pow_right, add-zero, add-suc, suc-add}
-use lib.ListN.{length, get_or, take, drop, set, length-drop}
-use lib.Seq.{drop-drop, get_or-drop, take-add, drop-cons, take_at, drop_at, sets}
+use native.Mathlib.Nat.{div-one, div-div-eq-div-mul, mul_comm, mul_assoc, pow-suc, div-add-mod', le_of_suc-le-suc, not-suc-le-zero, add-zero, add-suc, suc-add}
+use lib.ListN.{length, get_or, take, drop, set, length-drop, length-take}
+use lib.Seq.{drop-drop, get_or-drop, take-add, take_at, drop_at, take_all, sets}
+use Rattle.std.specs.Prelude.{slice_index}
+use Rattle.std.specs.Int.{byte_at, byte_worth, bytes_low_first, sum_through}
 use Rattle.packet.specs.Le.{le, of_le, num_at, packed, unpacked}
 use Rattle.packet.specs.Promises.{Bytes, Fit}
 
@@ -58,33 +59,45 @@ packed_unpacked (w ∷ ws) s b h =
     let b' : Bytes (drop w s) = λ k. rw get_or-drop (b (w + k)) in
     rw (take-add, le_of_le w s b (omega arith), packed_unpacked ws (drop w s) b' (rw length-drop (omega arith)))
 
--- ---- the loops
+-- ---- std's words
 
--- w bytes are below 256 ^ w
-of_le_lt : (w : ℕ) (s : List ℕ) → Bytes s → of_le (take w s) < 256 ^ w
-of_le_lt zero s b = omega arith
-of_le_lt (suc w) [] b = rw pow-suc (omega (arith, of_le_lt w [] b))
-of_le_lt (suc w) (x ∷ s) b = rw pow-suc (omega (arith, b 0, of_le_lt w s (λ k. b (suc k))))
+byte_at-pow : (i n : ℕ) → byte_at i n ≡ n / 256 ^ i % 256
+byte_at-pow zero n = rw div-one refl
+byte_at-pow (suc i) n = refl
 
--- at most k bytes, anywhere, are below 256 ^ k
-pub below : (k : ℕ) (s : List ℕ) (at w : ℕ) → Bytes s → w ≤ k → num_at s at w < 256 ^ k
-below k s at w b h =
-    let b' : Bytes (drop at s) = λ i. rw get_or-drop (b (at + i)) in
-    lt_of_lt_of_le (of_le_lt w (drop at s) b') (pow-le-pow_right (omega arith) h)
+byte_worth-pow : (i b : ℕ) → byte_worth i b ≡ 256 ^ i * b
+byte_worth-pow zero b = omega arith
+byte_worth-pow (suc i) b = mul_comm b (256 ^ suc i)
 
--- one turn of a read of w bytes, from the last to the first
-pub get_step : (s : List ℕ) (at w left : ℕ) → 0 < left → at + w ≤ length s → left ≤ w
-    → num_at s (at + (left - 1)) (w - (left - 1)) ≡ num_at s (at + left) (w - left) * 256 + get_or s (at + (left - 1)) 0
-get_step s at w left h k l =
-    let n : w - (left - 1) ≡ suc (w - left) = omega arith in
-    let m : suc (at + (left - 1)) ≡ at + left = omega arith in
-    rw (n, drop-cons s (at + (left - 1)) 0 (omega arith), m) (omega arith)
+-- bytes from place i up are those of the number less its i lowest bytes
+low_first : (i w n : ℕ) → bytes_low_first i w n ≡ le w (n / 256 ^ i)
+low_first i zero n = refl
+low_first i (suc w) n =
+    let e : n / 256 ^ suc i ≡ n / 256 ^ i / 256 = rw (div-div-eq-div-mul, pow-suc) refl in
+    rw (byte_at-pow i n, low_first (suc i) w n, e) refl
 
--- one turn of a store of w bytes
-pub put_step : (s : List ℕ) (i left rest : ℕ) → 0 < left
-    → sets (set s i (rest % 256)) (i + 1) (le (left - 1) (rest / 256)) ≡ sets s i (le left rest)
-put_step s i zero rest h = absurd (not-suc-le-zero h)
-put_step s i (suc l) rest h = simp (add-one, sub-one)
+-- what std stores of a number are its w low bytes
+pub stored : (w n : ℕ) → bytes_low_first 0 w n ≡ le w n
+stored w n = low_first 0 w n ∙ ap (le w) (div-one n)
+
+-- one byte more
+of_le_snoc : (k : ℕ) (s : List ℕ) → of_le (take (suc k) s) ≡ of_le (take k s) + 256 ^ k * get_or s k 0
+of_le_snoc zero [] = refl
+of_le_snoc zero (x ∷ s) = omega arith
+of_le_snoc (suc k) [] = omega arith
+of_le_snoc (suc k) (x ∷ s) =
+    let e : 256 ^ k * 256 * get_or s k 0 ≡ 256 * (256 ^ k * get_or s k 0) = rw (mul_comm (256 ^ k) 256) (mul_assoc 256 (256 ^ k) (get_or s k 0)) in
+    rw (of_le_snoc k s, pow-suc, e) (omega arith)
+
+-- what std reads of w bytes is their number
+read : (k : ℕ) (s : List ℕ) → sum_through (λ i. byte_worth i (slice_index s i)) k ≡ of_le (take (suc k) s)
+read zero s = sym (of_le_snoc 0 s ∙ omega arith)
+read (suc k) s = rw (read k s, of_le_snoc (suc k) s, byte_worth-pow (suc k) (get_or s (suc k) 0)) refl
+
+-- and of the w bytes from a place on that is the number there
+pub read_at : (k : ℕ) (s part : List ℕ) (at n : ℕ) → part ≡ take (suc k) (drop at s) → n ≡ sum_through (λ i. byte_worth i (slice_index part i)) k
+    → n ≡ num_at s at (suc k)
+read_at k s part at n e r = r ∙ read k part ∙ rw e (ap of_le (take_all (suc k) (take (suc k) (drop at s)) (rw length-take (omega arith))))
 
 -- ---- numbers at their offsets
 

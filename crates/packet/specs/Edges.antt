@@ -1,8 +1,8 @@
 -- The readings of 01 that this crate decides: the bytes of reading a, both ways, and headers of other lengths. Assumes nothing.
-use Rattle.std.specs.Prelude.{ℕ, List, [], ◌∷◌, replicate}
-use Rattle.defs.specs.Answer.{told}
+use Rattle.std.specs.Prelude.{ℕ, List, [], ◌∷◌, replicate, Err}
+use Rattle.defs.specs.Answer.{told, done}
 use Rattle.defs.specs.Reading.{Reading, ◌reads◌}
-use Rattle.defs.specs.declared.answer.Answer.TheVariants.{Done, BadHeader}
+use Rattle.defs.specs.declared.answer.Refusal.TheVariants.{BadHeader}
 use Rattle.packet.specs.Uapi.{op_response, type_stream}
 use Rattle.packet.specs.Header.{of_fields, decode_of, encode_of}
 use Rattle.packet.specs.declared.hdr.VsockPacketHdr.{VsockPacketHdr}
@@ -32,13 +32,13 @@ bytes_a =
 -- a: the header's bytes, whole, and back
 unfoldable pub reading_a : List Reading
 reading_a =
-    (encode_of (record { hdr = header_a; out = replicate 44 9 }) reads record { answer = told Done; out = bytes_a })
-    ∷ (decode_of bytes_a reads record { answer = told Done; hdr = header_a })
+    (encode_of (record { hdr = header_a; out = replicate 44 9 }) reads record { answer = told done; out = bytes_a })
+    ∷ (decode_of bytes_a reads record { answer = told done; hdr = header_a })
     ∷ []
 
 -- answer 2: one byte more, one byte less
 unfoldable pub wrong_lengths : List Reading
 wrong_lengths =
-    (encode_of (record { hdr = header_a; out = replicate 45 9 }) reads record { answer = told BadHeader; out = replicate 45 9 })
-    ∷ (decode_of (replicate 43 9) reads record { answer = told BadHeader; hdr = of_fields [] })
+    (encode_of (record { hdr = header_a; out = replicate 45 9 }) reads record { answer = told (Err BadHeader); out = replicate 45 9 })
+    ∷ (decode_of (replicate 43 9) reads record { answer = told (Err BadHeader); hdr = of_fields [] })
     ∷ []

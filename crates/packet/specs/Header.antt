@@ -1,14 +1,13 @@
 -- The packet header of virtio 1.2, section 5.10.6: ten little-endian numbers, packed; and what decode and encode leave. Assumes nothing.
-use Rattle.std.specs.Prelude.{ℕ, ◌≡◌, List, [], ◌∷◌, length, get_or}
+use Rattle.std.specs.Prelude.{ℕ, ◌≡◌, List, [], ◌∷◌, length, get_or, Result, Err}
 use Rattle.std.specs.Int.Bits.{bit_or}
 use Rattle.defs.specs.Choice.{when}
-use Rattle.defs.specs.Answer.{Told, told}
+use Rattle.defs.specs.Answer.{Told, told, done, answer_of, given_or}
 use Rattle.defs.specs.Limits.{is_header_length}
-use Rattle.defs.specs.declared.answer.Answer.TheVariants.{Done, BadHeader as BadHeaderAnswer}
+use Rattle.defs.specs.declared.answer.Refusal.{Refusal}
+use Rattle.defs.specs.declared.answer.Refusal.TheVariants.{BadHeader}
 use Rattle.packet.specs.Le.{packed, unpacked}
 use Rattle.packet.specs.declared.hdr.VsockPacketHdr.{VsockPacketHdr}
-use Rattle.packet.specs.declared.hdr.Decoded.{Decoded}
-use Rattle.packet.specs.declared.hdr.Decoded.TheVariants.{Header, BadHeader}
 
 -- the standard's table: the width of each field in bytes, in the order of the struct
 abbrev pub layout : List ℕ
@@ -65,15 +64,14 @@ pub record DecodeLeft : Type 0 where
   pub hdr : VsockPacketHdr
 
 -- 01's number and values of what decode gives: a refusal carries the zero header
-abbrev pub told_decoded : Decoded → DecodeLeft
-told_decoded (Header h) = record { answer = told Done; hdr = h }
-told_decoded BadHeader = record { answer = told BadHeaderAnswer; hdr = of_fields [] }
+abbrev pub told_decoded : Result VsockPacketHdr Refusal → DecodeLeft
+told_decoded r = record { answer = told (answer_of r); hdr = given_or (of_fields []) r }
 
 -- 01, answer 2: exactly when the buffer is not 44 bytes
 unfoldable pub decode_of : List ℕ → DecodeLeft
 decode_of bytes =
-    when (is_header_length (length bytes)) (record { answer = told Done; hdr = decoded bytes })
-    (record { answer = told BadHeaderAnswer; hdr = of_fields [] })
+    when (is_header_length (length bytes)) (record { answer = told done; hdr = decoded bytes })
+    (record { answer = told (Err BadHeader); hdr = of_fields [] })
 
 abbrev pub DecodeSays : List ℕ → DecodeLeft → Type 0
 DecodeSays bytes left = left ≡ decode_of bytes
@@ -90,8 +88,8 @@ pub record EncodeLeft : Type 0 where
 
 unfoldable pub encode_of : EncodeIn → EncodeLeft
 encode_of given =
-    when (is_header_length (length given.out)) (record { answer = told Done; out = encoded given.hdr })
-    (record { answer = told BadHeaderAnswer; out = given.out })
+    when (is_header_length (length given.out)) (record { answer = told done; out = encoded given.hdr })
+    (record { answer = told (Err BadHeader); out = given.out })
 
 abbrev pub EncodeSays : EncodeIn → EncodeLeft → Type 0
 EncodeSays given left = left ≡ encode_of given

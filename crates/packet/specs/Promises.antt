@@ -1,16 +1,15 @@
 -- What this crate promises, in statements only; proofs/Promises has a line for each. Assumes nothing.
-use Rattle.std.specs.Prelude.{ℕ, ◌/◌, ◌%◌, ◌^◌, ◌<◌, ◌≡◌, ◌⊎◌, List, [], ◌∷◌, length, get_or, replicate}
-use Rattle.defs.specs.Answer.{told}
+use Rattle.std.specs.Prelude.{ℕ, ◌/◌, ◌%◌, ◌^◌, ◌<◌, ◌≡◌, ◌⊎◌, List, [], ◌∷◌, length, get_or, replicate, Result}
+use Rattle.defs.specs.Answer.{told, done}
 use Rattle.defs.specs.Limits.{header_size}
 use Rattle.defs.specs.Promises.{Exactly, AnswersInTurn, Refuses}
 use Rattle.defs.specs.Reading.{Hold}
-use Rattle.defs.specs.declared.answer.Answer.TheVariants.{Done}
+use Rattle.defs.specs.declared.answer.Refusal.{Refusal}
 use Rattle.packet.specs.Le.{offsets, num_at}
 use Rattle.packet.specs.Uapi.{op_request, op_response, op_rst, op_shutdown, op_rw, op_credit_update, op_credit_request, type_stream, flag_shutdown_rcv, flag_shutdown_send}
 use Rattle.packet.specs.Header.{layout, fields, flagged, told_decoded, DecodeLeft, decode_of, DecodeSays, EncodeIn, EncodeLeft, encode_of, EncodeSays}
 use Rattle.packet.specs.Edges.{reading_a, wrong_lengths}
 use Rattle.packet.specs.declared.hdr.VsockPacketHdr.{VsockPacketHdr}
-use Rattle.packet.specs.declared.hdr.Decoded.{Decoded}
 
 -- every element is a byte
 abbrev pub Bytes : List ℕ → Type 0
@@ -76,13 +75,13 @@ EveryFlagAdds = (h : VsockPacketHdr) (flag : ℕ) → FlagAdds h flag (flagged h
 abbrev pub DecodeAfterEncode : Type 0
 DecodeAfterEncode =
     (h : VsockPacketHdr) (out : List ℕ) → Fit layout (fields h) → length out ≡ header_size
-    → decode_of (encode_of (record { hdr = h; out = out })).out ≡ record { answer = told Done; hdr = h }
+    → decode_of (encode_of (record { hdr = h; out = out })).out ≡ record { answer = told done; hdr = h }
 
 -- what was decoded is encoded: for 44 bytes below 256, whatever stood in the buffer
 abbrev pub EncodeAfterDecode : Type 0
 EncodeAfterDecode =
     (bytes out : List ℕ) → Bytes bytes → length bytes ≡ header_size → length out ≡ header_size
-    → encode_of (record { hdr = (decode_of bytes).hdr; out = out }) ≡ record { answer = told Done; out = bytes }
+    → encode_of (record { hdr = (decode_of bytes).hdr; out = out }) ≡ record { answer = told done; out = bytes }
 
 -- 01's table: 2 exactly when the header buffer is not 44 bytes
 abbrev pub DecodeAnswers : Type 0
@@ -96,9 +95,9 @@ pub record RefusalsChangeNothing : Type 0 where
   pub decode : (bytes : List ℕ) (left : DecodeLeft) → DecodeSays bytes left → Refuses left.answer → fields left.hdr ≡ replicate 10 0
   pub encode : (i : EncodeIn) (left : EncodeLeft) → EncodeSays i left → Refuses left.answer → left.out ≡ i.out
 
--- 01, "When an answer is an enum": number and values tell decode's cases apart
+-- 01, "When an answer is an enum": number and values tell decode's results apart
 abbrev pub ToldTellsApart : Type 0
-ToldTellsApart = (a b : Decoded) → told_decoded a ≡ told_decoded b → a ≡ b
+ToldTellsApart = (a b : Result VsockPacketHdr Refusal) → told_decoded a ≡ told_decoded b → a ≡ b
 
 -- 01's readings at the edges of this crate
 pub record EdgesHold : Type 0 where

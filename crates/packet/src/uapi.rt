@@ -1,5 +1,5 @@
 // The numbers of virtio 1.2, section 5.10, under the names of the Rust. specs/Uapi.antt has the
-// same table.
+// same table. They stay numbers: the op that comes in may be any, and is matched as a number.
 
 // Operations (5.10.6).
 pub const VSOCK_OP_REQUEST: u16 = 1;

@@ -6,12 +6,10 @@ use mathlib.Core.List.{List, [], ◌∷◌}
 use borrow.Author.Tests.{not-true}
 use lib.ListN.{length}
 use Rattle.defs.specs.Choice.{when}
-use Rattle.defs.specs.Answer.{told, is_done, when_done}
+use Rattle.defs.specs.Answer.{told, when_done, Answer, done}
 use Rattle.defs.specs.Ladder.{door_of, record_answer}
 use Rattle.defs.specs.Look.{FlagLeft, flag_of, LenLeft, len_of}
 use Rattle.defs.specs.Promises.{Exactly, AnswersInTurn}
-use Rattle.defs.specs.declared.answer.Answer.{Answer}
-use Rattle.defs.specs.declared.answer.Answer.TheVariants.{Done}
 use Rattle.defs.proofs.AnswerLaws.{answer_told}
 use Rattle.defs.proofs.ChoiceLaws.{when_holds}
 use Rattle.defs.proofs.MeansLaws.{as_is, not_means, and_means, below_means}
@@ -28,7 +26,7 @@ use Rattle.queue.specs.Answers.{push_rows, LookAnswers, NewAnswers}
 
 number : {Q : Type 0} (sound down : Bool) (left : QueuedLeft Q) (q : Q) → left.answer.number ≡ when down 11 0
     → (when_done (record_answer sound) left (record { answer = told (record_answer sound); queue = q })).answer.number ≡ first_in_turn ((1, not sound) ∷ (11, down) ∷ [])
-unfolding record_answer door_of when_done is_done when
+unfolding record_answer door_of when_done when
 number false down left q e = refl
 number true true left q e = e
 number true false left q e = e
@@ -61,9 +59,9 @@ module _ {Q A : Type 0} (k : Kind Q A) where
   unfolding pop_of pop_list when
   pop_told {G} nothing due give a q left e = ap (λ (o : PopLeft G Q). o.answer) e ∙ answer_told (λ (o : PopLeft G Q). o.answer) a _ _ (by (items k q)) refl
     where
-      by : (l : List A) → (pop_list k nothing due give q l).answer ≡ told Done
+      by : (l : List A) → (pop_list k nothing due give q l).answer ≡ told done
       by [] = refl
-      by (x ∷ l) = when_holds (λ (o : PopLeft G Q). o.answer ≡ told Done) (due x) _ _ (λ t. refl) (λ t. refl)
+      by (x ∷ l) = when_holds (λ (o : PopLeft G Q). o.answer ≡ told done) (due x) _ _ (λ t. refl) (λ t. refl)
 
   -- ---- the constructor and the looks
 
@@ -75,7 +73,7 @@ module _ {Q A : Type 0} (k : Kind Q A) where
   unfolding peek_of peek_list
   peek_told q left e = ap (λ (o : PeekLeft A). o.answer) e ∙ answer_told (λ (o : PeekLeft A). o.answer) (record_answer (sound_q k q)) _ _ (by (items k q)) refl
     where
-      by : (l : List A) → (peek_list k l).answer ≡ told Done
+      by : (l : List A) → (peek_list k l).answer ≡ told done
       by [] = refl
       by (x ∷ l) = refl
 

@@ -9,23 +9,24 @@ use borrow.Author.Tests.{le-leb}
 use lib.ListN.{length, get_or, set, drop, replicate, length-append, length-replicate}
 use lib.Seq.{get_or-drop}
 use Rattle.defs.specs.Choice.{when}
-use Rattle.defs.specs.Answer.{told, is_done}
+use Rattle.defs.specs.Answer.{told, is_done, Answer, done}
 use Rattle.defs.specs.Ladder.{door_of, record_answer}
 use Rattle.defs.specs.Promises.{Exactly, Refuses}
-use Rattle.defs.specs.declared.answer.Answer.{Answer}
-use Rattle.defs.specs.declared.answer.Answer.TheVariants.{Done, NotQueued}
+use Rattle.defs.specs.declared.answer.Refusal.TheVariants.{NotQueued}
 use Rattle.defs.proofs.Basics.{both, never, true_or_false}
 use Rattle.defs.proofs.AnswerLaws.{is_done_lem, done_passes, number_zero, when_done_lem, when_not_done, left_kept}
-use Rattle.defs.proofs.ChoiceLaws.{when_holds}
+use Rattle.defs.proofs.ChoiceLaws.{when_true, when_false, when_holds}
 use Rattle.defs.proofs.LookLaws.{flag_done, len_done}
 use Rattle.defs.proofs.MeansLaws.{in_words, equal_means}
 use Rattle.queue.specs.Queue.{Queue, Kind, Lawful, all, padded, clear_q, sound_q, items, pack, holding, front_gone}
-use Rattle.queue.specs.Queued.{QueuedLeft, ListLeft, leaves, made_of, new_of, laid, push_of}
+use Rattle.queue.specs.Queued.{QueuedLeft, ListLeft, leaves, push_list, made_of, new_of, laid, push_of}
 use Rattle.queue.specs.Look.{PeekLeft, peek_list, peek_of}
 use Rattle.queue.specs.Pop.{PopLeft, pop_list, pop_of}
 use Rattle.queue.specs.Promises.{RefusalKeeps}
-use Rattle.queue.specs.Means.{place_of, Sound as SoundIn, SoundMeans, Given, EmptyOf, LooksMean, Room, Appends, Replaces, Unsyncs, PeekMeans, PopMeans}
+use Rattle.queue.specs.Means.{place_of, Sound as SoundIn, SoundMeans, Given, EmptyOf, LooksMean, Room, Appends, Replaces, Unsyncs, PushBackMeans, PeekMeans, PopMeans}
+use Rattle.queue.proofs.AnswerLaws.{room_of, no_room}
 use Rattle.queue.proofs.QueueLaws.{Sound, parts, sound_says, packed, synced_anew, sound_packed, appended, replaced}
+use Rattle.std.specs.Prelude.{Err}
 
 -- ---- places past the items
 
@@ -132,7 +133,7 @@ module _ {Q A : Type 0} (k : Kind Q A) (w : Lawful k) where
     place_is : (n : ℕ) → place_of k q n ≡ get_or (items k q) n k.zero_item
     place_is n = ap (λ (l : List A). get_or l n k.zero_item) s.cleared ∙ get_d_padded k.size k.zero_item (items k q) n
 
-    pub passed : record_answer (sound_q k q) ≡ Done
+    pub passed : record_answer (sound_q k q) ≡ done
     unfolding record_answer door_of when
     passed = ap record_answer g.1
 
@@ -169,7 +170,7 @@ module _ {Q A : Type 0} (k : Kind Q A) (w : Lawful k) where
     -- its front taken
 
     module _ {G : Type 0} (nothing : G) (due : A → Bool) (give : A → G) (Due : A → Type 0) (says : (x : A) → Exactly (due x ≡ true) (Due x)) where
-      idle_means : ((1 ≤ (k.seen q).len) × Due (place_of k q 0) → ⊥) → PopMeans k Due give nothing q (record { answer = told Done; found = false; given = nothing; queue = q })
+      idle_means : ((1 ≤ (k.seen q).len) × Due (place_of k q 0) → ⊥) → PopMeans k Due give nothing q (record { answer = told done; found = false; given = nothing; queue = q })
       idle_means n = record {
         answer = refl;
         found = (λ f. absurd (never f), λ h. absurd (n h));
@@ -182,7 +183,7 @@ module _ {Q A : Type 0} (k : Kind Q A) (w : Lawful k) where
         idle = λ f. (refl, refl);
       }
 
-      front_means : (x : A) (l : List A) → items k q ≡ x ∷ l → Due x → PopMeans k Due give nothing q (record { answer = told Done; found = true; given = give x; queue = front_gone k q })
+      front_means : (x : A) (l : List A) → items k q ≡ x ∷ l → Due x → PopMeans k Due give nothing q (record { answer = told done; found = true; given = give x; queue = front_gone k q })
       front_means x l e d =
           let front : x ≡ place_of k q 0 = sym (place_is 0 ∙ ap (λ (l : List A). get_or l 0 k.zero_item) e) in
           let len : suc (length l) ≡ (k.seen q).len = sym (ap length e) ∙ s.held in
@@ -218,7 +219,7 @@ module _ {Q A : Type 0} (k : Kind Q A) (w : Lawful k) where
           idle_means
           (λ h. never (sym t ∙ (says x).1 (subst Due (place_is 0 ∙ ap (λ (l : List A). get_or l 0 k.zero_item) e) h.1))))
 
-      pub pop_means : (left : PopLeft G Q) → left ≡ pop_of k nothing due give Done q → PopMeans k Due give nothing q left
+      pub pop_means : (left : PopLeft G Q) → left ≡ pop_of k nothing due give done q → PopMeans k Due give nothing q left
       unfolding pop_of
       pop_means left e = subst (PopMeans k Due give nothing q) (sym (e ∙ when_done_lem _ _ _ refl)) (pop_by (items k q) refl)
 
@@ -232,17 +233,24 @@ module _ {Q A : Type 0} (k : Kind Q A) (w : Lawful k) where
           let o : left ≡ laid k q (leaves a l synced) = e ∙ when_done_lem _ _ _ passed ∙ ap (laid k q) f in
           (ap (λ (o : QueuedLeft Q). o.answer.number) o, ap (λ (o : QueuedLeft Q). o.queue) o ∙ sym h)
 
-      pub push_appends : (x : A) → Room k q → push (items k q) (k.seen q).limit (k.seen q).synced ≡ leaves Done (items k q ++ (x ∷ [])) (k.seen q).synced → Appends k q x left
-      push_appends x r f = laid_means Done _ _ _ f (appended q s x (k.seen q).synced (let h = r.1 in omega (arith, s.held, s.most)))
+      pub push_appends : (x : A) → Room k q → push (items k q) (k.seen q).limit (k.seen q).synced ≡ leaves done (items k q ++ (x ∷ [])) (k.seen q).synced → Appends k q x left
+      push_appends x r f = laid_means done _ _ _ f (appended q s x (k.seen q).synced (let h = r.1 in omega (arith, s.held, s.most)))
 
-      pub push_replaces : (n : ℕ) (x : A) → n < (k.seen q).len → push (items k q) (k.seen q).limit (k.seen q).synced ≡ leaves Done (set (items k q) n x) false → Replaces k q n x left
-      push_replaces n x h f = laid_means Done _ _ _ f (replaced q s n x false h)
+      pub push_replaces : (n : ℕ) (x : A) → n < (k.seen q).len → push (items k q) (k.seen q).limit (k.seen q).synced ≡ leaves done (set (items k q) n x) false → Replaces k q n x left
+      push_replaces n x h f = laid_means done _ _ _ f (replaced q s n x false h)
 
-      pub push_unsyncs : push (items k q) (k.seen q).limit (k.seen q).synced ≡ leaves NotQueued (items k q) false → Unsyncs k q left
-      push_unsyncs f = laid_means NotQueued _ _ _ f (synced_anew k w q false s)
+      pub push_unsyncs : push (items k q) (k.seen q).limit (k.seen q).synced ≡ leaves (Err NotQueued) (items k q) false → Unsyncs k q left
+      push_unsyncs f = laid_means (Err NotQueued) _ _ _ f (synced_anew k w q false s)
 
-      pub push_stays : push (items k q) (k.seen q).limit (k.seen q).synced ≡ leaves NotQueued (items k q) (k.seen q).synced → (left.answer.number ≡ 11) × (left.queue ≡ q)
-      push_stays f = laid_means NotQueued _ _ _ f (sound_packed k w q s)
+      pub push_stays : push (items k q) (k.seen q).limit (k.seen q).synced ≡ leaves (Err NotQueued) (items k q) (k.seen q).synced → (left.answer.number ≡ 11) × (left.queue ≡ q)
+      push_stays f = laid_means (Err NotQueued) _ _ _ f (sound_packed k w q s)
+
+    pub push_back_means : (x : A) (left : QueuedLeft Q) → left ≡ push_of k (push_list x) q → PushBackMeans k x q left
+    unfolding push_list
+    push_back_means x left e = record {
+      room = λ r. push_appends (push_list x) left e x r (when_true _ _ _ ((room_of k q).1 r));
+      no_room = λ n. push_unsyncs (push_list x) left e (when_false _ _ _ (no_room k q n));
+    }
 
 -- ---- refusals
 
@@ -253,15 +261,15 @@ module _ {Q A : Type 0} (k : Kind Q A) (q : Q) where
   push_refused push left e n r = ap (λ (o : QueuedLeft Q). o.queue) (left_kept (λ (o : QueuedLeft Q). o.answer) _ _ _ left n e r)
 
   -- a call that looks at the list is done
-  looks : (l : List A) → (peek_list k l).answer ≡ told Done
+  looks : (l : List A) → (peek_list k l).answer ≡ told done
   unfolding peek_list
   looks [] = refl
   looks (x ∷ l) = refl
 
-  takes : {G : Type 0} (nothing : G) (due : A → Bool) (give : A → G) (l : List A) → (pop_list k nothing due give q l).answer ≡ told Done
+  takes : {G : Type 0} (nothing : G) (due : A → Bool) (give : A → G) (l : List A) → (pop_list k nothing due give q l).answer ≡ told done
   unfolding pop_list
   takes nothing due give [] = refl
-  takes {G = G} nothing due give (x ∷ l) = when_holds (λ (o : PopLeft G Q). o.answer ≡ told Done) (due x) _ _ (λ t. refl) (λ t. refl)
+  takes {G = G} nothing due give (x ∷ l) = when_holds (λ (o : PopLeft G Q). o.answer ≡ told done) (due x) _ _ (λ t. refl) (λ t. refl)
 
   peek_refused : (left : PeekLeft A) → left ≡ peek_of k q → Refuses left.answer → (left.found ≡ false) × (left.item ≡ k.zero_item)
   unfolding peek_of

@@ -2,11 +2,12 @@ pub mod Edges
 pub mod PlacesLaws
 pub mod TurnLaws
 pub mod QueueLaws
+pub mod ArrayLaws
 pub mod AnswerLaws
 pub mod EveryLaws
 pub mod QueuedLaws
+pub mod FillLaws
 pub mod LookLaws
 pub mod PopLaws
-pub mod WalkLaws
 pub mod Promises
 pub mod Pinned

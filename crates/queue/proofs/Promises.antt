@@ -1,8 +1,9 @@
 -- The promises of specs/Promises, each by its law. Assumes nothing.
-use Rattle.queue.specs.Promises.{EveryQueueIsItsList, SoundStaysSound, EverySoundMeans, PlaceAfterMeans, UsedMeans, EveryMadeIsEmpty, RefusalsChangeNothing, EveryLookMeans, RoomMeans, EveryPeekMeans, EveryPopMeans, EveryLookAnswers, EveryNewAnswers, EdgesHold}
+use Rattle.queue.specs.Promises.{EveryQueueIsItsList, SoundStaysSound, EverySoundMeans, PlaceAfterMeans, UsedMeans, EveryMadeIsEmpty, RefusalsChangeNothing, EveryLookMeans, EveryQueueFills, RoomMeans, EveryPushBackMeans, EveryPeekMeans, EveryPopMeans, EveryLookAnswers, EveryNewAnswers, EdgesHold}
 use Rattle.queue.proofs.Edges as edges
 use Rattle.queue.proofs.AnswerLaws as answers
 use Rattle.queue.proofs.EveryLaws as every
+use Rattle.queue.proofs.FillLaws as fills
 use Rattle.queue.proofs.QueueLaws as queues
 use Rattle.queue.proofs.TurnLaws as turns
 
@@ -30,8 +31,14 @@ refusals_change_nothing Q A k q = every.refusals_keep k q
 pub every_look_means : EveryLookMeans
 every_look_means Q A k w q g = every.looks_mean k w q g
 
+pub every_queue_fills : EveryQueueFills
+every_queue_fills Q A k w limit h l = fills.all_filled k w limit h l
+
 pub room_means : RoomMeans
 room_means = answers.room_means
+
+pub every_push_back_means : EveryPushBackMeans
+every_push_back_means Q A k w x q left e g = every.push_back_means k w q g x left e
 
 pub every_peek_means : EveryPeekMeans
 every_peek_means Q A k w q left e g = every.peek_means k w q g left e

@@ -6,17 +6,16 @@ use mathlib.Core.List.{List, [], ◌∷◌, ◌++◌}
 use native.Mathlib.Omega.{arith}
 use borrow.Author.Tests.{le-leb, leb-true, ltb-true}
 use lib.Dec.{leb, ltb}
-use lib.ListN.{length, get_or, take, drop, set, length-append, length-take, length-set}
+use lib.ListN.{length, take, drop, set, length-append, length-take, length-set}
 use lib.Seq.{length-take-le}
 use Rattle.defs.specs.Ladder.{record_answer}
-use Rattle.defs.specs.declared.answer.Answer.{Answer}
-use Rattle.defs.specs.declared.answer.Answer.TheVariants.{Done}
 use Rattle.defs.proofs.Basics.{both}
 use Rattle.defs.proofs.LadderLaws.{record_passed}
 use Rattle.queue.specs.Queue.{Queue, Kind, Lawful, padded, clear_q, sound_q, items, pack, holding}
 use Rattle.queue.specs.Queued.{has_room}
 use Rattle.queue.specs.Promises.{QueueIsItsList}
-use Rattle.queue.proofs.PlacesLaws.{places_are, items_of, places_append, places_set, places_rearranged, places_clear, front_held}
+use Rattle.queue.proofs.PlacesLaws.{places_are, items_of, places_append, places_set, places_rearranged, places_clear}
+use Rattle.defs.specs.Answer.{Answer, done}
 
 -- what soundness says of a queue whose array is as long as its type says
 pub record Sound {Q A : Type 0} (k : Kind Q A) (q : Q) : Type 0 where
@@ -58,7 +57,7 @@ module _ {Q A : Type 0} (k : Kind Q A) where
         }
 
     -- past a refusal
-    pub sound_past : (q : Q) (a : Answer) → a ≡ record_answer (sound_q k q) → a ≡ Done → length (k.seen q).places ≡ k.size → Sound k q
+    pub sound_past : (q : Q) (a : Answer) → a ≡ record_answer (sound_q k q) → a ≡ done → length (k.seen q).places ≡ k.size → Sound k q
     sound_past q a e d n = sound_says q n (record_passed a (sound_q k q) e d)
 
     pub packed : (l : List A) (limit : ℕ) (synced : Bool)
@@ -94,17 +93,16 @@ unfolding has_room
 append_within l x limit synced t =
     let h = ltb-true (length l) limit (both synced (ltb (length l) limit) t).1 in omega (arith, length-append l (x ∷ []))
 
+-- where there is room, a queue is not full
+pub room_under : (synced : Bool) (len limit : ℕ) → has_room synced len limit ≡ true → len < limit
+unfolding has_room
+room_under synced len limit t = ltb-true len limit (both synced (ltb len limit) t).1
+
 -- ---- calls on the places of a sound queue
 
 module _ {Q A : Type 0} {k : Kind Q A} (q : Q) (s : Sound k q) where
   pub room_is : (synced b : Bool) → has_room synced (k.seen q).len (k.seen q).limit ≡ b → has_room synced (length (items k q)) (k.seen q).limit ≡ b
   room_is synced b t = ap (λ (n : ℕ). has_room synced n (k.seen q).limit) s.held ∙ t
-
-  -- where there is room, the place behind the items is one of the array's
-  pub room_within : (synced : Bool) → has_room synced (k.seen q).len (k.seen q).limit ≡ true → (k.seen q).len < k.size
-  unfolding has_room
-  room_within synced t =
-      omega (arith, s.most, ltb-true (k.seen q).len (k.seen q).limit (both synced (ltb (k.seen q).len (k.seen q).limit) t).1)
 
   -- an item more
   pub appended : (x : A) (synced : Bool) → (k.seen q).len < k.size
@@ -132,7 +130,3 @@ module _ {Q A : Type 0} {k : Kind Q A} (q : Q) (s : Sound k q) where
       ap (λ (r : List A). l ++ drop (k.seen q).len r) s.cleared
       ∙ ap (λ (n : ℕ). l ++ drop n (padded k.size k.zero_item (items k q))) (sym s.held)
       ∙ places_rearranged k.size k.zero_item (items k q) l (e ∙ sym s.held)
-
-  -- the front item
-  pub front_first : 0 < (k.seen q).len → items k q ≡ get_or (k.seen q).places 0 k.zero_item ∷ drop 1 (items k q)
-  front_first h = front_held k.zero_item (k.seen q).places (k.seen q).len h (omega (arith, s.held, length-take (k.seen q).len (k.seen q).places))

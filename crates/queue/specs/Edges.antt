@@ -1,8 +1,7 @@
 -- The edges of a queue, computed for one of numbers, of three places and limits 1 and 2. Assumes nothing.
 use Rattle.std.specs.Prelude.{ℕ, Bool, true, false, ◌&&◌, List, [], ◌∷◌, leb, eqb}
-use Rattle.defs.specs.Answer.{told}
+use Rattle.defs.specs.Answer.{told, done}
 use Rattle.defs.specs.Reading.{Reading, ◌reads◌}
-use Rattle.defs.specs.declared.answer.Answer.TheVariants.{Done}
 use Rattle.queue.specs.Queue.{Queue, Kind, place_after, sound_q, pack}
 use Rattle.queue.specs.Queued.{has_room}
 use Rattle.queue.specs.Pop.{PopLeft, pop_of}
@@ -43,14 +42,14 @@ packs =
 
 -- a pop of an unsynced queue that gives what is at most 5
 abbrev popped : List ℕ → PopLeft ℕ (Queue ℕ)
-popped l = pop_of numbers 0 (λ x. leb x 5) (λ x. x) Done (pack numbers l 2 false)
+popped l = pop_of numbers 0 (λ x. leb x 5) (λ x. x) done (pack numbers l 2 false)
 
 -- the front goes, sync stays; a front that isn't due stays, also before one that is; there may be nothing to give
 unfoldable pub pops : List Reading
 pops =
-    (popped (5 ∷ 6 ∷ []) reads record { answer = told Done; found = true; given = 5; queue = pack numbers (6 ∷ []) 2 false })
-    ∷ (popped (6 ∷ 5 ∷ []) reads record { answer = told Done; found = false; given = 0; queue = pack numbers (6 ∷ 5 ∷ []) 2 false })
-    ∷ (popped [] reads record { answer = told Done; found = false; given = 0; queue = pack numbers [] 2 false })
+    (popped (5 ∷ 6 ∷ []) reads record { answer = told done; found = true; given = 5; queue = pack numbers (6 ∷ []) 2 false })
+    ∷ (popped (6 ∷ 5 ∷ []) reads record { answer = told done; found = false; given = 0; queue = pack numbers (6 ∷ 5 ∷ []) 2 false })
+    ∷ (popped [] reads record { answer = told done; found = false; given = 0; queue = pack numbers [] 2 false })
     ∷ []
 
 -- so many on from place 1 at limit 2, and from the one place of limit 1

@@ -1,5 +1,7 @@
 pub mod Queue
+pub mod Arrays
 pub mod Queued
+pub mod Fill
 pub mod Look
 pub mod Pop
 pub mod Means

@@ -57,6 +57,11 @@ module _ {Q A : Type 0} (k : Kind Q A) where
       (left.answer.number ≡ 11)
       × (left.queue ≡ k.made (record { places = (k.seen q).places; len = (k.seen q).len; limit = (k.seen q).limit; synced = false }))
 
+  -- a push behind the others
+  pub record PushBackMeans (x : A) (q : Q) (left : QueuedLeft Q) : Type 0 where
+    pub room : Room q → Appends q x left
+    pub no_room : (Room q → ⊥) → Unsyncs q left
+
   -- ---- the looks: sync as it stands, the number of items, and whether that is 0 or the limit
 
   pub record LooksMean (q : Q) : Type 0 where

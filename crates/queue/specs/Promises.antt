@@ -1,15 +1,14 @@
 -- What this crate promises, in statements only; proofs/Promises has a line for each. Assumes nothing.
 use Rattle.std.specs.Prelude.{ℕ, ◌+◌, ◌%◌, ◌≤◌, ◌<◌, ◌≡◌, ◌⊎◌, Bool, true, false, List, length}
-use Rattle.defs.specs.Answer.{told}
+use Rattle.defs.specs.Answer.{told, Answer, done}
 use Rattle.defs.specs.Promises.{Exactly, Refuses}
 use Rattle.defs.specs.Reading.{Hold}
-use Rattle.defs.specs.declared.answer.Answer.{Answer}
-use Rattle.defs.specs.declared.answer.Answer.TheVariants.{Done}
-use Rattle.queue.specs.Queue.{Kind, Lawful, place_after, used_past, used_round, sound_q, items, pack, holding}
-use Rattle.queue.specs.Queued.{QueuedLeft, has_room, ListLeft, made_of, new_of, push_of}
+use Rattle.queue.specs.Queue.{Kind, Lawful, place_after, used_past, used_round, sound_q, items, pack, empty_of, holding}
+use Rattle.queue.specs.Queued.{QueuedLeft, has_room, ListLeft, made_of, new_of, push_of, PushBackSays}
+use Rattle.queue.specs.Fill.{all_in, filled}
 use Rattle.queue.specs.Look.{PeekLeft, peek_of}
 use Rattle.queue.specs.Pop.{PopLeft, pop_of}
-use Rattle.queue.specs.Means.{Sound, SoundMeans, Given, EmptyOf, LooksMean, PeekMeans, PopMeans}
+use Rattle.queue.specs.Means.{Sound, SoundMeans, Given, EmptyOf, LooksMean, PushBackMeans, PeekMeans, PopMeans}
 use Rattle.queue.specs.Answers.{LookAnswers, NewAnswers}
 use Rattle.queue.specs.Edges.{sounds, packs, pops, onwards, rooms}
 
@@ -67,9 +66,18 @@ RefusalsChangeNothing = (Q A : Type 0) (k : Kind Q A) (q : Q) → RefusalKeeps k
 abbrev pub EveryLookMeans : Type 1
 EveryLookMeans = (Q A : Type 0) (k : Kind Q A) → Lawful k → (q : Q) → Given k q → LooksMean k q
 
+-- to take in a list, item by item, is to fill an empty queue: it holds the first items, and is unsynced exactly if there are more than its limit
+abbrev pub EveryQueueFills : Type 1
+EveryQueueFills = (Q A : Type 0) (k : Kind Q A) → Lawful k → (limit : ℕ) → limit ≤ k.size → (l : List A) → all_in k l (empty_of k limit) ≡ filled k limit l
+
 -- room is for one more: synced and not full
 abbrev pub RoomMeans : Type 0
 RoomMeans = (synced : Bool) (len limit : ℕ) → Exactly (has_room synced len limit ≡ true) ((synced ≡ true) × (len < limit))
+
+-- a push behind the others, where there is room; else it is turned down, and unsyncs
+abbrev pub EveryPushBackMeans : Type 1
+EveryPushBackMeans =
+    (Q A : Type 0) (k : Kind Q A) → Lawful k → (x : A) (q : Q) (left : QueuedLeft Q) → PushBackSays k x q left → Given k q → PushBackMeans k x q left
 
 -- a peek looks at the front
 abbrev pub EveryPeekMeans : Type 1
@@ -79,7 +87,7 @@ EveryPeekMeans = (Q A : Type 0) (k : Kind Q A) → Lawful k → (q : Q) (left : 
 abbrev pub EveryPopMeans : Type 1
 EveryPopMeans =
     (Q A G : Type 0) (k : Kind Q A) → Lawful k → (nothing : G) (due : A → Bool) (give : A → G) (Due : A → Type 0) → ((x : A) → Exactly (due x ≡ true) (Due x))
-    → (q : Q) (left : PopLeft G Q) → left ≡ pop_of k nothing due give Done q → Given k q → PopMeans k Due give nothing q left
+    → (q : Q) (left : PopLeft G Q) → left ≡ pop_of k nothing due give done q → Given k q → PopMeans k Due give nothing q left
 
 -- whatever a queue's test and its limit's test say, the numbers are 01's
 abbrev pub EveryLookAnswers : Type 1

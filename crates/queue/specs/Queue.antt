@@ -68,6 +68,10 @@ module _ {Q A : Type 0} (k : Kind Q A) where
   abbrev pub pack : List A → ℕ → Bool → Q
   pack l limit synced = k.made (record { places = padded k.size k.zero_item l; len = length l; limit = limit; synced = synced })
 
+  -- an empty, synced queue
+  abbrev pub empty_of : ℕ → Q
+  empty_of limit = pack [] limit true
+
   -- a queue that a call has given other items, or another sync: its limit stays
   abbrev pub holding : Q → List A → Bool → Q
   holding q l synced = pack l (k.seen q).limit synced

@@ -1,10 +1,16 @@
-// What both queues are, said once over any item (specs/): the record, the list that it means, and
-// what each call leaves. Code that touches an array of items stands in each queue's own crate.
+// What both queues are, once over any item: the record, the list that it means, and what each call
+// leaves. What a queue does beside that stands in its own crate.
 #![tactic(auto)]
+
+mod item;
+mod queue;
 
 ghost use Rattle.std.specs.Prelude.{◌≡◌, ◌-◌, min};
 ghost use Rattle.queue.specs.Queue.{place_after};
 ghost use Rattle.queue.specs.Queued.{has_room};
+
+pub use item::Item;
+pub use queue::{Popped, Queue, Queued};
 
 // When a queue takes one item more.
 pub fn has_room(synced: bool, len: usize, limit: usize) -> bool
@@ -29,17 +35,12 @@ pub fn place_after(front: usize, n: usize, limit: usize) -> usize
 fn ahead_of(front: usize, limit: usize) -> usize
     ensures { result ≡ limit - front }
 {
-    if front < limit {
-        return limit - front;
-    }
-    0
+    limit.saturating_sub(front)
 }
 
+// No call is left, but what it promises may not change, nor its edit.
 pub fn lesser(a: usize, b: usize) -> usize
     ensures { result ≡ min a b }
 {
-    if a < b {
-        return a;
-    }
-    b
+    a.min(b)
 }

@@ -4,6 +4,7 @@
 // what is offered first and in the fifth what is offered next.
 use crate::conn_record::conn_of;
 use crate::frame;
+use connection::VsockPacket;
 
 pub fn call(entry: u8, head: &[u8], storage: &[u8], hdr: &[u8], buf: &[u8], bytes: &[u8]) {
     match entry {
@@ -18,9 +19,10 @@ fn send(head: &[u8], storage: &[u8], hdr: &[u8], buf: &[u8]) {
     let conn = conn_of(head);
     let present = frame::yes_at(head, 9);
     let clock = frame::u64_at(head, 96);
-    let door = connection::send_door(conn, hdr, present, buf, clock, storage);
-    let writes = connection::send_writes(conn, hdr, present, buf, clock, storage);
-    let offered = connection::send_offered(conn, hdr, present, buf, clock, storage);
+    let pkt = VsockPacket { hdr, present, buf };
+    let door = connection::send_door(conn, pkt, clock, storage);
+    let writes = connection::send_writes(conn, pkt, clock, storage);
+    let offered = connection::send_offered(conn, pkt, clock, storage);
     let mut reply = frame::reply_to(head, door);
     frame::put_yes(&mut reply, 9, writes);
     frame::write(&mut reply, b"", b"", b"", offered, b"");
@@ -33,8 +35,9 @@ fn recv(head: &[u8], hdr: &[u8], buf: &[u8]) {
     let door = connection::recv_door(conn, hdr, present, buf, clock);
     let asked = connection::recv_asked(conn, hdr, present, buf, clock);
     let mut reply = frame::reply_to(head, door);
-    frame::put_yes(&mut reply, 9, asked.reads);
-    frame::put_u64(&mut reply, 104, asked.count as u64);
+    let count = asked.unwrap_or(None);
+    frame::put_yes(&mut reply, 9, count.is_some());
+    frame::put_u64(&mut reply, 104, count.unwrap_or(0) as u64);
     frame::write(&mut reply, b"", b"", b"", b"", b"");
 }
 

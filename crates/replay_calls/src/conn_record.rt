@@ -14,17 +14,13 @@ fn state_of(number: u8, recv_off: bool, send_off: bool) -> ConnState {
     }
 }
 
-fn timer_of(set: bool, time: u64) -> Timer {
-    if set { Timer::At(time) } else { Timer::Unset }
-}
-
 fn pending_of(bits: u8) -> PendingRxSet {
     PendingRxSet {
-        request: bits % 2 == 1,
-        response: bits / 2 % 2 == 1,
-        rst: bits / 4 % 2 == 1,
-        rw: bits / 8 % 2 == 1,
-        credit_update: bits / 16 % 2 == 1,
+        request: bits & 1 != 0,
+        response: bits & 2 != 0,
+        rst: bits & 4 != 0,
+        rw: bits & 8 != 0,
+        credit_update: bits & 16 != 0,
     }
 }
 
@@ -45,7 +41,7 @@ fn state_in(head: &[u8]) -> ConnState {
 }
 
 fn timer_in(head: &[u8]) -> Timer {
-    timer_of(frame::yes_at(head, 8), frame::u64_at(head, 88))
+    frame::yes_at(head, 8).then_some(frame::u64_at(head, 88))
 }
 
 pub fn conn_of(head: &[u8]) -> VsockConnection {
@@ -68,32 +64,26 @@ pub fn conn_of(head: &[u8]) -> VsockConnection {
 }
 
 pub fn put_state(reply: &mut [u8], state: ConnState) {
-    match state {
-        ConnState::LocalInit => frame::put_byte(reply, 4, 0),
-        ConnState::PeerInit => frame::put_byte(reply, 4, 1),
-        ConnState::Established => frame::put_byte(reply, 4, 2),
-        ConnState::LocalClosed => frame::put_byte(reply, 4, 3),
-        ConnState::PeerClosed(recv_off, send_off) => put_closed(reply, recv_off, send_off),
-        ConnState::Killed => frame::put_byte(reply, 4, 5),
+    let number = match state {
+        ConnState::LocalInit => 0,
+        ConnState::PeerInit => 1,
+        ConnState::Established => 2,
+        ConnState::LocalClosed => 3,
+        ConnState::PeerClosed(_, _) => 4,
+        ConnState::Killed => 5,
+    };
+    frame::put_byte(reply, 4, number);
+    if let ConnState::PeerClosed(recv_off, send_off) = state {
+        frame::put_yes(reply, 5, recv_off);
+        frame::put_yes(reply, 6, send_off);
     }
-}
-
-fn put_closed(reply: &mut [u8], recv_off: bool, send_off: bool) {
-    frame::put_byte(reply, 4, 4);
-    frame::put_yes(reply, 5, recv_off);
-    frame::put_yes(reply, 6, send_off);
 }
 
 pub fn put_timer(reply: &mut [u8], timer: Timer) {
-    match timer {
-        Timer::Unset => frame::put_byte(reply, 8, 0),
-        Timer::At(time) => put_time(reply, time),
+    frame::put_yes(reply, 8, timer.is_some());
+    if let Some(time) = timer {
+        frame::put_u64(reply, 88, time);
     }
-}
-
-fn put_time(reply: &mut [u8], time: u64) {
-    frame::put_byte(reply, 8, 1);
-    frame::put_u64(reply, 88, time);
 }
 
 pub fn bit(yes: bool, value: u8) -> u8 {
@@ -110,40 +100,35 @@ fn put_pending(reply: &mut [u8], pending: PendingRxSet) {
 }
 
 fn put_settings(reply: &mut [u8], settings: Settings) {
-    frame::put_u32(reply, 24, settings.threshold as u64);
+    frame::put_u32(reply, 24, settings.threshold);
     frame::put_u64(reply, 56, settings.request_timeout);
     frame::put_u64(reply, 64, settings.shutdown_timeout);
 }
 
 fn put_counters(reply: &mut [u8], conn: VsockConnection) {
-    frame::put_u32(reply, 36, conn.fwd_cnt as u64);
-    frame::put_u32(reply, 48, conn.rx_cnt as u64);
-    frame::put_u32(reply, 52, conn.last_fwd_cnt_to_peer as u64);
+    frame::put_u32(reply, 36, conn.fwd_cnt);
+    frame::put_u32(reply, 48, conn.rx_cnt);
+    frame::put_u32(reply, 52, conn.last_fwd_cnt_to_peer);
 }
 
 fn put_peer_credit(reply: &mut [u8], conn: VsockConnection) {
-    frame::put_u32(reply, 40, conn.peer_buf_alloc as u64);
-    frame::put_u32(reply, 44, conn.peer_fwd_cnt as u64);
+    frame::put_u32(reply, 40, conn.peer_buf_alloc);
+    frame::put_u32(reply, 44, conn.peer_fwd_cnt);
 }
 
 fn put_addresses(reply: &mut [u8], conn: VsockConnection) {
-    frame::put_u32(reply, 28, conn.local_port as u64);
-    frame::put_u32(reply, 32, conn.peer_port as u64);
+    frame::put_u32(reply, 28, conn.local_port);
+    frame::put_u32(reply, 32, conn.peer_port);
     frame::put_u64(reply, 72, conn.local_cid);
     frame::put_u64(reply, 80, conn.peer_cid);
 }
 
 pub fn put_conn(reply: &mut [u8], conn: VsockConnection) {
-    let tx_buf = conn.tx_buf;
-    let settings = conn.settings;
-    let state = conn.state;
-    let pending = conn.pending_rx;
-    let expiry = conn.expiry;
-    ring_calls::put_ring(reply, tx_buf);
-    put_settings(reply, settings);
-    put_state(reply, state);
-    put_pending(reply, pending);
-    put_timer(reply, expiry);
+    ring_calls::put_ring(reply, conn.tx_buf);
+    put_settings(reply, conn.settings);
+    put_state(reply, conn.state);
+    put_pending(reply, conn.pending_rx);
+    put_timer(reply, conn.expiry);
     put_counters(reply, conn);
     put_peer_credit(reply, conn);
     put_addresses(reply, conn);

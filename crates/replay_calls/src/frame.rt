@@ -1,7 +1,8 @@
 // The frames that calls come in and go out as. A frame is a head of 144 bytes and five runs of
-// bytes, whose lengths stand at its end; oracle/FRAMES.md says what stands where.
+// bytes, whose lengths stand at its end; oracle/FRAMES.md says what stands where. Calls, states and
+// the stream's answers are matched by the numbers that it gives them: any byte may come.
 use defs::limits::MAX_PKT_BUF_SIZE;
-use defs::{Answer, StreamAnswer};
+use defs::{Answer, Refusal, StreamAnswer, StreamAnswers};
 
 pub const HEAD: usize = 144;
 
@@ -12,52 +13,27 @@ pub const ROOM: usize = MAX_PKT_BUF_SIZE + 64;
 // ---- reading: a place that the frame does not have reads as 0
 
 pub fn byte_at(frame: &[u8], at: usize) -> u8 {
-    if at < frame.len() {
-        return frame[at];
-    }
-    0
+    frame.get(at).copied().unwrap_or(0)
 }
 
 pub fn yes_at(frame: &[u8], at: usize) -> bool {
     byte_at(frame, at) != 0
 }
 
-fn wide(x: u8) -> u64 {
-    x as u64
+fn bytes_at<const N: usize>(frame: &[u8], at: usize) -> [u8; N] {
+    frame
+        .get(at..)
+        .and_then(|rest| rest.first_chunk())
+        .copied()
+        .unwrap_or([0; N])
 }
 
 pub fn u64_at(frame: &[u8], at: usize) -> u64 {
-    if frame.len() < 8 {
-        return 0;
-    }
-    if frame.len() - 8 < at {
-        return 0;
-    }
-    wide(frame[at])
-        | (wide(frame[at + 1]) << 8)
-        | (wide(frame[at + 2]) << 16)
-        | (wide(frame[at + 3]) << 24)
-        | (wide(frame[at + 4]) << 32)
-        | (wide(frame[at + 5]) << 40)
-        | (wide(frame[at + 6]) << 48)
-        | (wide(frame[at + 7]) << 56)
-}
-
-fn wide_u32(x: u8) -> u32 {
-    x as u32
+    u64::from_le_bytes(bytes_at(frame, at))
 }
 
 pub fn u32_at(frame: &[u8], at: usize) -> u32 {
-    if frame.len() < 4 {
-        return 0;
-    }
-    if frame.len() - 4 < at {
-        return 0;
-    }
-    wide_u32(frame[at])
-        | (wide_u32(frame[at + 1]) << 8)
-        | (wide_u32(frame[at + 2]) << 16)
-        | (wide_u32(frame[at + 3]) << 24)
+    u32::from_le_bytes(bytes_at(frame, at))
 }
 
 pub fn usize_at(frame: &[u8], at: usize) -> usize {
@@ -72,61 +48,49 @@ pub fn len_at(head: &[u8], at: usize) -> usize {
 // ---- writing: a place that the frame does not have is left out
 
 pub fn put_byte(frame: &mut [u8], at: usize, n: u8) {
-    if at < frame.len() {
-        frame[at] = n;
-    }
+    put(frame, at, [n]);
 }
 
 pub fn put_yes(frame: &mut [u8], at: usize, yes: bool) {
-    if yes {
-        put_byte(frame, at, 1);
-    } else {
-        put_byte(frame, at, 0);
-    }
-}
-
-fn low(n: u64) -> u8 {
-    (n % 256) as u8
+    put_byte(frame, at, u8::from(yes));
 }
 
 pub fn put_u64(frame: &mut [u8], at: usize, n: u64) {
-    put_u32(frame, at, n % 4294967296);
-    if at < frame.len() {
-        put_u32(frame, at + 4, n / 4294967296);
-    }
+    put(frame, at, n.to_le_bytes());
 }
 
-// The four low bytes of a number.
-pub fn put_u32(frame: &mut [u8], at: usize, n: u64) {
-    if frame.len() < 4 {
-        return;
+pub fn put_u32(frame: &mut [u8], at: usize, n: u32) {
+    put(frame, at, n.to_le_bytes());
+}
+
+fn put<const N: usize>(frame: &mut [u8], at: usize, bytes: [u8; N]) {
+    if let Some(place) = frame.get_mut(at..).and_then(|rest| rest.first_chunk_mut()) {
+        *place = bytes;
     }
-    if frame.len() - 4 < at {
-        return;
-    }
-    put_byte(frame, at, low(n));
-    put_byte(frame, at + 1, low(n / 256));
-    put_byte(frame, at + 2, low(n / 65536));
-    put_byte(frame, at + 3, low(n / 16777216));
 }
 
 // ---- runs
 
-// Reads a run of so many bytes to the front of its room.
-pub fn fill(bytes: usize, room: &mut [u8]) {
+// Reads a run of so many bytes to the front of its room, and gives that front.
+pub fn filled(bytes: usize, room: &mut [u8]) -> &mut [u8] {
     let n = text::fitting(bytes, room);
-    io::read_full(0, &mut room[..n]);
+    let run = &mut room[..n];
+    io::read_full(0, run);
+    run
 }
 
 // ---- what every call has
 
 // The answers of the stream: kinds at 2 and 3, counts at 104 and 112.
-pub fn first_answer(head: &[u8]) -> StreamAnswer {
-    stream_answer(byte_at(head, 2), usize_at(head, 104))
+pub fn answers(head: &[u8]) -> StreamAnswers {
+    StreamAnswers {
+        first: first_answer(head),
+        second: stream_answer(byte_at(head, 3), usize_at(head, 112)),
+    }
 }
 
-pub fn second_answer(head: &[u8]) -> StreamAnswer {
-    stream_answer(byte_at(head, 3), usize_at(head, 112))
+pub fn first_answer(head: &[u8]) -> StreamAnswer {
+    stream_answer(byte_at(head, 2), usize_at(head, 104))
 }
 
 fn stream_answer(kind: u8, count: usize) -> StreamAnswer {
@@ -143,39 +107,22 @@ pub fn reply_to(head: &[u8], answer: Answer) -> [u8; HEAD] {
     reply[0] = byte_at(head, 0);
     reply[1] = byte_at(head, 1);
     reply[2] = defs::number_of(answer);
-    reply[3] = which(answer);
+    reply[3] = match answer {
+        Err(Refusal::StreamBlocked) => 1,
+        Err(Refusal::StreamFailed) => 2,
+        _ => 0,
+    };
     reply
-}
-
-fn which(answer: Answer) -> u8 {
-    match answer {
-        Answer::Done => 0,
-        Answer::BadRecord => 0,
-        Answer::BadHeader => 0,
-        Answer::BadClock => 0,
-        Answer::BadLength => 0,
-        Answer::BadAnswer => 0,
-        Answer::NoRoom => 0,
-        Answer::NoData => 0,
-        Answer::PktBufMissing => 0,
-        Answer::TxBufFull => 0,
-        Answer::StreamBlocked => 1,
-        Answer::StreamFailed => 2,
-        Answer::NotQueued => 0,
-    }
 }
 
 // Writes a reply: its head with the lengths of the runs, then the runs.
 pub fn write(reply: &mut [u8], storage: &[u8], hdr: &[u8], buf: &[u8], bytes: &[u8], out: &[u8]) {
-    put_u32(reply, 120, storage.len() as u64);
-    put_u32(reply, 124, hdr.len() as u64);
-    put_u32(reply, 128, buf.len() as u64);
-    put_u32(reply, 132, bytes.len() as u64);
-    put_u32(reply, 136, out.len() as u64);
+    let runs = [storage, hdr, buf, bytes, out];
+    for (i, run) in runs.iter().enumerate() {
+        put_u32(reply, 120 + 4 * i, (run.len() % 4294967296) as u32);
+    }
     io::write_all(1, reply);
-    io::write_all(1, storage);
-    io::write_all(1, hdr);
-    io::write_all(1, buf);
-    io::write_all(1, bytes);
-    io::write_all(1, out);
+    for run in runs {
+        io::write_all(1, run);
+    }
 }

@@ -1,8 +1,7 @@
 // The header's entries, 51 and 52. Its bytes are the second run. The fields stand at the places
 // that a connection's record has.
 use crate::frame;
-use defs::Answer;
-use packet::{Decoded, VsockPacketHdr};
+use packet::VsockPacketHdr;
 
 pub fn call(entry: u8, head: &[u8], hdr: &mut [u8]) {
     match entry {
@@ -12,44 +11,36 @@ pub fn call(entry: u8, head: &[u8], hdr: &mut [u8]) {
 }
 
 fn read(head: &[u8], bytes: &[u8]) {
-    match packet::decode(bytes) {
-        Decoded::Header(hdr) => left(head, hdr, bytes),
-        Decoded::BadHeader => refused(head, bytes),
+    let decoded = packet::decode(bytes);
+    let mut reply = frame::reply_to(head, decoded.map(|_| ()));
+    if let Ok(hdr) = decoded {
+        put_addresses(&mut reply, hdr);
+        put_numbers(&mut reply, hdr);
+        put_credit(&mut reply, hdr);
     }
-}
-
-fn refused(head: &[u8], bytes: &[u8]) {
-    let mut reply = frame::reply_to(head, Answer::BadHeader);
-    frame::write(&mut reply, b"", bytes, b"", b"", b"");
-}
-
-fn left(head: &[u8], hdr: VsockPacketHdr, bytes: &[u8]) {
-    let mut reply = frame::reply_to(head, Answer::Done);
-    put_addresses(&mut reply, hdr);
-    put_numbers(&mut reply, hdr);
-    put_credit(&mut reply, hdr);
     frame::write(&mut reply, b"", bytes, b"", b"", b"");
 }
 
 fn put_addresses(reply: &mut [u8], hdr: VsockPacketHdr) {
     frame::put_u64(reply, 72, hdr.src_cid);
     frame::put_u64(reply, 80, hdr.dst_cid);
-    frame::put_u32(reply, 28, hdr.src_port as u64);
-    frame::put_u32(reply, 32, hdr.dst_port as u64);
+    frame::put_u32(reply, 28, hdr.src_port);
+    frame::put_u32(reply, 32, hdr.dst_port);
 }
 
 fn put_numbers(reply: &mut [u8], hdr: VsockPacketHdr) {
-    frame::put_u32(reply, 12, hdr.len as u64);
-    frame::put_u32(reply, 16, hdr.type_ as u64);
-    frame::put_u32(reply, 20, hdr.op as u64);
+    frame::put_u32(reply, 12, hdr.len);
+    frame::put_u32(reply, 16, hdr.type_ as u32);
+    frame::put_u32(reply, 20, hdr.op as u32);
 }
 
 fn put_credit(reply: &mut [u8], hdr: VsockPacketHdr) {
-    frame::put_u32(reply, 24, hdr.flags as u64);
-    frame::put_u32(reply, 40, hdr.buf_alloc as u64);
-    frame::put_u32(reply, 36, hdr.fwd_cnt as u64);
+    frame::put_u32(reply, 24, hdr.flags);
+    frame::put_u32(reply, 40, hdr.buf_alloc);
+    frame::put_u32(reply, 36, hdr.fwd_cnt);
 }
 
+// The low bits: `as` alone is for numbers that fit, and `try_from` would refuse the others.
 fn narrow(n: u32) -> u16 {
     (n % 65536) as u16
 }

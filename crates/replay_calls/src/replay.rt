@@ -5,7 +5,7 @@ use crate::{ask_calls, conn_calls, frame, hdr_calls, killq_calls, ring_calls, rx
 const MOST: u64 = 1000000000000;
 
 // Replays all calls, each over as much of the runs as its frame fills. It has a C name, so that a
-// host can lend longer runs than the program has (oracle/larger.sh).
+// host can lend longer runs than the program has (oracle/larger.sh); so the runs are five parameters.
 #[unsafe(no_mangle)]
 pub extern "C" fn vsock_replay(
     storage: &mut [u8],
@@ -14,11 +14,9 @@ pub extern "C" fn vsock_replay(
     bytes: &mut [u8],
     out: &mut [u8],
 ) {
-    let mut turn = 0;
-    while turn < MOST {
-        turn += 1;
+    for _ in 0..MOST {
         if !replay(storage, hdr, buf, bytes, out) {
-            return;
+            break;
         }
     }
 }
@@ -36,12 +34,12 @@ fn replay(
     if n < frame::HEAD {
         return false;
     }
-    fill(&head, storage, hdr, buf, bytes, out);
     cut(&head, storage, hdr, buf, bytes, out);
     true
 }
 
-fn fill(
+// Fills each run, and hands it on as exactly its bytes.
+fn cut(
     head: &[u8],
     storage: &mut [u8],
     hdr: &mut [u8],
@@ -49,35 +47,12 @@ fn fill(
     bytes: &mut [u8],
     out: &mut [u8],
 ) {
-    frame::fill(frame::len_at(head, 120), storage);
-    frame::fill(frame::len_at(head, 124), hdr);
-    frame::fill(frame::len_at(head, 128), buf);
-    frame::fill(frame::len_at(head, 132), bytes);
-    frame::fill(frame::len_at(head, 136), out);
-}
-
-// Hands each run on as exactly its bytes.
-fn cut(
-    head: &[u8],
-    storage: &mut [u8],
-    hdr: &mut [u8],
-    buf: &mut [u8],
-    bytes: &[u8],
-    out: &mut [u8],
-) {
-    let a = text::fitting(frame::len_at(head, 120), storage);
-    let b = text::fitting(frame::len_at(head, 124), hdr);
-    let c = text::fitting(frame::len_at(head, 128), buf);
-    let d = text::fitting(frame::len_at(head, 132), bytes);
-    let e = text::fitting(frame::len_at(head, 136), out);
-    call(
-        head,
-        &mut storage[..a],
-        &mut hdr[..b],
-        &mut buf[..c],
-        &bytes[..d],
-        &mut out[..e],
-    );
+    let storage = frame::filled(frame::len_at(head, 120), storage);
+    let hdr = frame::filled(frame::len_at(head, 124), hdr);
+    let buf = frame::filled(frame::len_at(head, 128), buf);
+    let bytes = frame::filled(frame::len_at(head, 132), bytes);
+    let out = frame::filled(frame::len_at(head, 136), out);
+    call(head, storage, hdr, buf, bytes, out);
 }
 
 fn call(

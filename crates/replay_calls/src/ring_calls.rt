@@ -1,8 +1,8 @@
 // The ring's entries, 1 to 7. The storage is the first run, a push's bytes the fourth, the
 // outgoing buffer the fifth; the piece that is handed back is the fourth of the reply.
 use crate::frame;
-use defs::{Answer, StreamAnswers};
-use txbuf::TxBuf;
+use defs::{Answer, Refusal};
+use txbuf::{Flushed, TxBuf};
 
 pub fn ring_of(head: &[u8]) -> TxBuf {
     TxBuf {
@@ -13,9 +13,9 @@ pub fn ring_of(head: &[u8]) -> TxBuf {
 }
 
 pub fn put_ring(reply: &mut [u8], ring: TxBuf) {
-    frame::put_u32(reply, 12, ring.size as u64);
-    frame::put_u32(reply, 16, ring.head as u64);
-    frame::put_u32(reply, 20, ring.tail as u64);
+    frame::put_u32(reply, 12, ring.size);
+    frame::put_u32(reply, 16, ring.head);
+    frame::put_u32(reply, 20, ring.tail);
 }
 
 pub fn call(entry: u8, head: &[u8], storage: &mut [u8], bytes: &[u8], out: &mut [u8]) {
@@ -46,58 +46,73 @@ fn write(
 }
 
 fn new(head: &[u8], storage: &[u8], out: &[u8]) {
-    let asked = ring_of(head);
-    let made = TxBuf::new(asked.size);
-    let answer = made.answer;
-    let ring = made.ring;
-    write(head, answer, 0, ring, storage, b"", out);
+    let opened = TxBuf::new(ring_of(head).size);
+    write(head, opened.answer, 0, opened.ring, storage, b"", out);
+}
+
+// A look leaves the ring as it is; a yes is 1.
+fn look(head: &[u8], value: Result<u64, Refusal>, storage: &[u8], out: &[u8]) {
+    let answer = value.and(Ok(()));
+    let told = value.unwrap_or(0);
+    write(head, answer, told, ring_of(head), storage, b"", out);
 }
 
 fn len(head: &[u8], storage: &[u8], out: &[u8]) {
-    let ring = ring_of(head);
-    let len = ring.len();
-    let answer = len.answer;
-    write(head, answer, len.len as u64, ring, storage, b"", out);
+    let len = ring_of(head).len();
+    look(head, len.map(|n| n as u64), storage, out);
 }
 
 fn is_empty(head: &[u8], storage: &[u8], out: &[u8]) {
-    let ring = ring_of(head);
-    let empty = ring.is_empty();
-    let answer = empty.answer;
-    let mut value = 0u64;
-    if empty.holds {
-        value = 1;
-    }
-    write(head, answer, value, ring, storage, b"", out);
+    let empty = ring_of(head).is_empty();
+    look(head, empty.map(u64::from), storage, out);
 }
 
+// A refused push or flush leaves the ring as it was.
 fn push(head: &[u8], storage: &mut [u8], bytes: &[u8], out: &[u8]) {
     let ring = ring_of(head);
     let pushed = ring.push(storage, bytes);
-    let answer = pushed.answer;
-    let left = pushed.ring;
-    write(head, answer, 0, left, storage, b"", out);
+    let left = pushed.unwrap_or(ring);
+    write(head, pushed.and(Ok(())), 0, left, storage, b"", out);
 }
 
 fn flush_to(head: &[u8], storage: &[u8], out: &mut [u8]) {
     let ring = ring_of(head);
-    let first = frame::first_answer(head);
-    let second = frame::second_answer(head);
-    let answers = StreamAnswers { first, second };
-    let flushed = ring.flush_to(storage, answers, out);
-    let answer = flushed.answer;
-    let left = flushed.ring;
-    write(head, answer, flushed.count as u64, left, storage, b"", out);
+    let flushed = ring.flush_to(storage, frame::answers(head), out);
+    let left = flushed.unwrap_or(Flushed { count: 0, ring });
+    let answer = flushed.and(Ok(()));
+    write(
+        head,
+        answer,
+        left.count as u64,
+        left.ring,
+        storage,
+        b"",
+        out,
+    );
 }
 
 fn first_piece(head: &[u8], storage: &[u8], out: &[u8]) {
     let ring = ring_of(head);
-    let piece = ring.first_piece(storage);
-    write(head, Answer::Done, 0, ring, storage, piece, out);
+    write(
+        head,
+        Ok(()),
+        0,
+        ring,
+        storage,
+        ring.first_piece(storage),
+        out,
+    );
 }
 
 fn second_piece(head: &[u8], storage: &[u8], out: &[u8]) {
     let ring = ring_of(head);
-    let piece = ring.second_piece(storage);
-    write(head, Answer::Done, 0, ring, storage, piece, out);
+    write(
+        head,
+        Ok(()),
+        0,
+        ring,
+        storage,
+        ring.second_piece(storage),
+        out,
+    );
 }

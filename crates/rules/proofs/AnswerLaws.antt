@@ -9,14 +9,12 @@ use lib.Dec.{ltb, eqb}
 use lib.ListN.{length}
 use borrow.Author.Tests.{le-ltb}
 use Rattle.defs.specs.Choice.{when}
-use Rattle.defs.specs.Answer.{Told, told, is_done, when_done}
+use Rattle.defs.specs.Answer.{Told, told, is_done, when_done, Answer, done}
 use Rattle.defs.specs.Ladder.{door_of, late_of, lowest_of, record_answer}
 use Rattle.defs.specs.Look.{FlagLeft, flag_of}
 use Rattle.defs.specs.Limits.{is_header_length, is_clock, is_packet_length}
 use Rattle.defs.specs.Promises.{Exactly, AnswersInTurn}
-use Rattle.defs.specs.Stream.{counted, read_counted, stopped_by, stops}
-use Rattle.defs.specs.declared.answer.Answer.{Answer}
-use Rattle.defs.specs.declared.answer.Answer.TheVariants.{Done}
+use Rattle.defs.specs.Stream.{counted, stopped_by, stops}
 use Rattle.defs.specs.declared.stream.StreamAnswer.{StreamAnswer}
 use Rattle.defs.specs.declared.stream.StreamAnswer.TheVariants.{Count, WouldBlock, Failed}
 use Rattle.defs.proofs.AnswerLaws.{answer_told}
@@ -94,7 +92,7 @@ send_answers i left says =
     ∷ row 4 (too_long_means i.present (length i.buf) i.hdr) ∷ row 5 (offered_means i) ∷ row 6 (room_means i) ∷ [])
     (ap (λ (o : SendLeft). o.answer.number) says ∙ ap (λ (t : Told). t.number) (send_told i) ∙ ap (λ (a : Answer). (told a).number) (sym (lowest_end _))
     ∙ ladder_then (not (sound_over i.conn (length i.store))) (not (is_header_length (length i.hdr))) (not (is_clock i.clock))
-    (i.present && too_long (pkt_of i) (length i.buf)) (ltb (send_plan i).len (send_plan i).written) (ltb (length i.out) (send_plan i).written) Done [] refl)
+    (i.present && too_long (pkt_of i) (length i.buf)) (ltb (send_plan i).len (send_plan i).written) (ltb (length i.out) (send_plan i).written) done [] refl)
 
 -- ---- a turn to speak
 
@@ -105,10 +103,10 @@ recv_told i =
     ap_when (λ (o : RecvLeft). o.answer) (is_done (refusal_of i)) (recv_done i) (recv_kept i) ∙ sym (ap_when told (is_done (refusal_of i)) (said_by i).answer (refusal_of i))
 
 read_means : (i : RecvIn)
-    → Exactly (reads_of i.conn i.present && (ltb (asked_of i.conn (length i.buf)) (read_counted i.answer) || ltb (length i.read) (read_counted i.answer)) ≡ true)
-    (Reads (turn_of i) × ((asked_now i < read_counted i.answer) ⊎ (length i.read < read_counted i.answer)))
+    → Exactly (reads_of i.conn i.present && (ltb (asked_of i.conn (length i.buf)) (counted i.answer) || ltb (length i.read) (counted i.answer)) ≡ true)
+    (Reads (turn_of i) × ((asked_now i < counted i.answer) ⊎ (length i.read < counted i.answer)))
 unfolding credit_of
-read_means i = and_means (reads_means (turn_of i)) (or_means (below_means (asked_of i.conn (length i.buf)) (read_counted i.answer)) (below_means (length i.read) (read_counted i.answer)))
+read_means i = and_means (reads_means (turn_of i)) (or_means (below_means (asked_of i.conn (length i.buf)) (counted i.answer)) (below_means (length i.read) (counted i.answer)))
 
 pub recv_answers : RecvAnswers
 unfolding recv_refusal recv_door credit_of when
@@ -118,7 +116,7 @@ recv_answers i left says =
     ∷ row 4 (and_means (as_is i.present) (packet_over (length i.buf))) ∷ row 5 (read_means i) ∷ row 7 (nothing_means (turn_of i)) ∷ row 8 (buffer_means (turn_of i)) ∷ [])
     (ap (λ (o : RecvLeft). o.answer.number) says ∙ ap (λ (t : Told). t.number) (recv_told i)
     ∙ ladder_then (not (sound_conn i.conn)) (not (is_header_length (length i.hdr))) (not (is_clock i.clock)) (i.present && not (is_packet_length (length i.buf)))
-    (reads_of i.conn i.present && (ltb (asked_of i.conn (length i.buf)) (read_counted i.answer) || ltb (length i.read) (read_counted i.answer))) false
+    (reads_of i.conn i.present && (ltb (asked_of i.conn (length i.buf)) (counted i.answer) || ltb (length i.read) (counted i.answer))) false
     (said_by i).answer
     ((7, has_nothing i.conn.pending_rx i.conn.state (eqb (credit_of i.conn) 0) i.present i.answer)
     ∷ (8, lacks_buffer i.conn.pending_rx i.conn.state (eqb (credit_of i.conn) 0) i.present) ∷ [])
@@ -127,8 +125,8 @@ recv_answers i left says =
 -- ---- an event
 
 -- of a flush of a sound ring only 5 and 6 are left
-absorbed_late : (a m none : Bool) (s : StreamAnswer) → absorbed (lowest_of (lowest_of (record_answer true) (late_of a m)) (when none Done (stopped_by s))) ≡ late_of a m
-unfolding absorbed lowest_of record_answer door_of late_of when_done is_done when
+absorbed_late : (a m none : Bool) (s : StreamAnswer) → absorbed (lowest_of (lowest_of (record_answer true) (late_of a m)) (when none done (stopped_by s))) ≡ late_of a m
+unfolding absorbed lowest_of record_answer door_of late_of when_done when
 absorbed_late true m none s = refl
 absorbed_late false true none s = refl
 absorbed_late false false true s = refl
@@ -142,8 +140,8 @@ unfolding flush_answer ends_by
 flush_late i e = rw (sound_over_ring i.conn (length i.store) e) (absorbed_late (flush_over (flush_in i)) (ltb (length i.out) (flush_count (flush_in i))) _ i.answers.first)
 
 event_number : (sound due over room : Bool) (f : Answer) → (sound ≡ true → f ≡ late_of over room)
-    → (told (lowest_of (record_answer sound) (when due f Done))).number ≡ first_in_turn ((1, not sound) ∷ (5, due && over) ∷ (6, due && room) ∷ [])
-unfolding lowest_of record_answer door_of late_of when_done is_done when
+    → (told (lowest_of (record_answer sound) (when due f done))).number ≡ first_in_turn ((1, not sound) ∷ (5, due && over) ∷ (6, due && room) ∷ [])
+unfolding lowest_of record_answer door_of late_of when_done when
 event_number false due over room f e = refl
 event_number true false over room f e = refl
 event_number true true over room f e = ap (λ (a : Answer). (told a).number) (e refl) ∙ late_number over room

@@ -8,15 +8,13 @@ use native.Mathlib.Omega.{arith}
 use lib.Dec.{leb, eqb}
 use lib.ListN.{take, drop}
 use borrow.Author.Tests.{eqb-true, ne_eqb, le-leb, not-false}
-use Rattle.defs.specs.Answer.{Told, told, is_done, when_done}
+use Rattle.defs.specs.Answer.{Told, told, is_done, when_done, Answer, done}
 use Rattle.defs.specs.Choice.{when}
 use Rattle.defs.specs.Credit.{peer_needs_credit_update}
 use Rattle.defs.specs.Ladder.{door_of, late_of, lowest_of}
 use Rattle.defs.specs.Look.{FlagLeft, flag_of}
 use Rattle.defs.specs.Promises.{Refuses, Exactly}
 use Rattle.defs.specs.Stream.{counted, failed}
-use Rattle.defs.specs.declared.answer.Answer.{Answer}
-use Rattle.defs.specs.declared.answer.Answer.TheVariants.{Done}
 use Rattle.defs.proofs.Basics.{never, both, true_or_false, positive, or_false}
 use Rattle.defs.proofs.AnswerLaws.{done_is_done, is_done_lem, done_passes, when_done_lem, when_not_done, when_refused, number_zero, answer_told, left_done, left_kept}
 use Rattle.defs.proofs.LadderLaws.{lowest_passed, door_passed}
@@ -247,7 +245,7 @@ update_is_due = record { send = send_due; notify = notify_due }
 
 -- a refusal of a turn is a number from 1 to 6
 refusal_small : (r h c l a m : Bool) → (told (lowest_of (door_of r h c l) (late_of a m))).number ≤ 6
-unfolding lowest_of door_of late_of when_done is_done when
+unfolding lowest_of door_of late_of when_done when
 refusal_small true h c l a m = omega arith
 refusal_small false true c l a m = omega arith
 refusal_small false false true l a m = omega arith
@@ -257,7 +255,7 @@ refusal_small false false false false false true = omega arith
 refusal_small false false false false false false = omega arith
 
 -- so what isn't refused is done, said or lacks its buffer
-pub not_refused : (i : RecvIn) (o : RecvLeft) → o ≡ recv_of i → (Refuses o.answer → ⊥) → refusal_of i ≡ Done
+pub not_refused : (i : RecvIn) (o : RecvLeft) → o ≡ recv_of i → (Refuses o.answer → ⊥) → refusal_of i ≡ done
 unfolding recv_of recv_kept recv_refusal recv_door
 not_refused i o says k =
     ⊎_elim

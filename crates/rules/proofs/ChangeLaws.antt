@@ -10,17 +10,16 @@ use lib.Dec.{ltb, eqb}
 use lib.ListN.{length, take, drop, length-drop}
 use lib.Seq.{length-take-le}
 use borrow.Author.Tests.{ltb-false, eqb-true, ne_eqb, not-true, not-false}
-use Rattle.defs.specs.Answer.{Told, told, is_done, when_done}
+use Rattle.std.specs.Prelude.{None, Some}
+use Rattle.defs.specs.Answer.{Told, told, is_done, when_done, Answer, done}
 use Rattle.defs.specs.Promises.{row_at, FirstInTurn, Refuses}
 use Rattle.defs.specs.Ladder.{door_of, late_of, lowest_of}
 use Rattle.defs.specs.Stream.{counted, failed, stops, stopped_by}
-use Rattle.defs.specs.declared.answer.Answer.{Answer}
 use Rattle.defs.specs.declared.stream.StreamAnswer.{StreamAnswer}
 use Rattle.defs.specs.declared.stream.StreamAnswer.TheVariants.{Count, WouldBlock, Failed}
 use Rattle.defs.specs.Choice.{when}
 use Rattle.defs.specs.Credit.{peer_needs_credit_update}
 use Rattle.defs.specs.Wrapping.{wadd, wsub}
-use Rattle.defs.specs.declared.answer.Answer.TheVariants.{Done}
 use Rattle.defs.proofs.Basics.{never, both, neither, true_or_false, and_false, or_true, or_false}
 use Rattle.defs.proofs.AnswerLaws.{done_is_done, number_zero, is_done_lem, when_done_lem, when_not_done, when_done_holds, left_done, left_where}
 use Rattle.defs.proofs.LadderLaws.{lowest_passed, record_passed}
@@ -42,13 +41,11 @@ use Rattle.txbuf.specs.declared.record.TxBuf.{TxBuf}
 use Rattle.csm.specs.State.{is_local_init, recv_off, send_off, shut_by, both_off, asks}
 use Rattle.csm.specs.Pending.{marked}
 use Rattle.csm.specs.declared.pending.PendingRxSet.{PendingRxSet}
-use Rattle.csm.specs.Timer.{is_set}
+use Rattle.csm.specs.Timer.{is_set, Timer}
 use Rattle.csm.specs.Means.{takes_data, shut_both, answers_request}
 use Rattle.csm.proofs.Promises.{every_state_means}
 use Rattle.csm.specs.declared.state.ConnState.{ConnState}
 use Rattle.csm.specs.declared.state.ConnState.TheVariants.{LocalInit, PeerInit, Established, LocalClosed, PeerClosed, Killed}
-use Rattle.csm.specs.declared.timer.Timer.{Timer}
-use Rattle.csm.specs.declared.timer.Timer.TheVariants.{Unset, At}
 use Rattle.rules.specs.Notify.{NotifyIn, NotifyLeft, seen_of, settled_of, drained_of, absorbed, due, flush_in, flushed, notify_door, notify_answer, notify_done, notify_kept, notify_of}
 use Rattle.rules.specs.Record.{peer_of, sent_of, regrouped, quiet, with_state, killed_of}
 use Rattle.rules.specs.Open.{Opening, ConnLeft, fresh_of, allocated, zero_conn, open_answer, peer_init_of, local_init_of}
@@ -76,7 +73,7 @@ confirmed_is LocalClosed = refl
 confirmed_is (PeerClosed a b) = refl
 confirmed_is Killed = refl
 
-cleared_is : (s : ConnState) (t : Timer) → cleared s t ≡ when (is_local_init s) Unset t
+cleared_is : (s : ConnState) (t : Timer) → cleared s t ≡ when (is_local_init s) None t
 unfolding when
 cleared_is LocalInit t = refl
 cleared_is PeerInit t = refl
@@ -94,10 +91,10 @@ closed_is (PeerClosed a b) r f = refl
 closed_is Killed r f = refl
 
 -- a timer that runs stays, by a test of it or case by case
-arms_is : (x y : Bool) (t : Timer) (time : ℕ) → x ≡ y → when (x && not (is_set t)) (At time) t ≡ when y (unless_running t time) t
+arms_is : (x y : Bool) (t : Timer) (time : ℕ) → x ≡ y → when (x && not (is_set t)) (Some time) t ≡ when y (unless_running t time) t
 unfolding when
-arms_is true y Unset time e = rw (← e)
-arms_is true y (At running) time e = rw (← e)
+arms_is true y None time e = rw (← e)
+arms_is true y (Some running) time e = rw (← e)
 arms_is false y t time e = rw (← e)
 
 first_part : (a b c d u : Bool) → a ≡ true → c ≡ false → b ≡ u → u ≡ (a && b) || (c && d)
@@ -186,14 +183,14 @@ module _ (i : SendIn) where
   unmarked s t = let p = i.conn.pending_rx in rw (or_false p.rst, or_false p.rw, or_false p.credit_update)
 
   response_is : (b : Bool)
-      → when b (with_state heard Established Unset i.conn.pending_rx) heard
-      ≡ shaped i (when b Established i.conn.state) (when b Unset i.conn.expiry) false false false i.conn.tx_buf i.conn.fwd_cnt
+      → when b (with_state heard Established None i.conn.pending_rx) heard
+      ≡ shaped i (when b Established i.conn.state) (when b None i.conn.expiry) false false false i.conn.tx_buf i.conn.fwd_cnt
   unfolding heard_of with_state when
-  response_is true = unmarked Established Unset
+  response_is true = unmarked Established None
   response_is false = unmarked i.conn.state i.conn.expiry
 
   response_now : on_response heard
-      ≡ shaped i (when (is_local_init i.conn.state) Established i.conn.state) (when (is_local_init i.conn.state) Unset i.conn.expiry) false false false i.conn.tx_buf i.conn.fwd_cnt
+      ≡ shaped i (when (is_local_init i.conn.state) Established i.conn.state) (when (is_local_init i.conn.state) None i.conn.expiry) false false false i.conn.tx_buf i.conn.fwd_cnt
   unfolding on_response heard_of
   response_now = response_is (is_local_init i.conn.state)
 
@@ -234,7 +231,7 @@ module _ (i : SendIn) where
     unfolding send_done when
     by_response e = record {
       s = when (is_local_init i.conn.state) Established i.conn.state;
-      t = when (is_local_init i.conn.state) Unset i.conn.expiry;
+      t = when (is_local_init i.conn.state) None i.conn.expiry;
       dies = false;
       rst = false;
       update = false;
@@ -367,17 +364,17 @@ module _ (i : SendIn) where
         ∙ ap (λ (r : List ℕ). push_done (record { ring = i.conn.tx_buf; store = i.store; src = r }))
         (ap (λ (n : ℕ). drop (send_plan i).written (take n i.buf)) l ∙ ap (λ (n : ℕ). drop n (take (decoded i.hdr).len i.buf)) w)
 
-    rest_length : send_answer i ≡ Done → length rest ≡ (decoded i.hdr).len - taken_now i
+    rest_length : send_answer i ≡ done → length rest ≡ (decoded i.hdr).len - taken_now i
     rest_length d =
         let l : (send_plan i).len ≡ (decoded i.hdr).len = plan_len i m in
         let p = (passed i d).part in
         length-drop (taken_now i) _ ∙ ap (λ (n : ℕ). n - taken_now i) (length-take-le (decoded i.hdr).len i.buf (omega arith))
 
-    pushed_ring : send_answer i ≡ Done → kills_now i ≡ false → (send_carried i).ring ≡ pushed_on i.conn.tx_buf ((decoded i.hdr).len - taken_now i)
+    pushed_ring : send_answer i ≡ done → kills_now i ≡ false → (send_carried i).ring ≡ pushed_on i.conn.tx_buf ((decoded i.hdr).len - taken_now i)
     unfolding push_done
     pushed_ring d k = ap (λ (o : PushLeft). o.ring) (pushes k) ∙ ap (pushed_on i.conn.tx_buf) (rest_length d)
 
-    by_data : send_answer i ≡ Done → kills_now i ≡ false → Shape i by
+    by_data : send_answer i ≡ done → kills_now i ≡ false → Shape i by
     unfolding send_done plan_of when
     by_data d k =
         let g = goes i m in
@@ -408,7 +405,7 @@ module _ (i : SendIn) where
         }
 
     -- what is pushed is written byte by byte
-    pushed_store : send_answer i ≡ Done → kills_now i ≡ false → (send_carried i).store ≡ written i.store i.conn.tx_buf.size i.conn.tx_buf.head rest
+    pushed_store : send_answer i ≡ done → kills_now i ≡ false → (send_carried i).store ≡ written i.store i.conn.tx_buf.size i.conn.tx_buf.head rest
     unfolding push_done
     pushed_store d k =
         let b : TxBuf = i.conn.tx_buf in
@@ -435,7 +432,7 @@ module _ (i : SendIn) where
           (λ (m : meets_data i ≡ false). ap (λ (b : Bool). b && not (send_kills i)) (stays_out i m))
           (true_or_false (meets_data i))
 
-  shape : send_answer i ≡ Done → Shape i by
+  shape : send_answer i ≡ done → Shape i by
   unfolding send_done plan_of
   shape d =
       ⊎_elim
@@ -471,7 +468,7 @@ module _ (i : SendIn) where
       (λ (m : meets_data i ≡ false). rw (m, stays_out i m))
       (true_or_false (meets_data i))
 
-  store_now : send_answer i ≡ Done
+  store_now : send_answer i ≡ done
       → (send_done i).store
       ≡ when (data_stays i) (written i.store i.conn.tx_buf.size i.conn.tx_buf.head (drop (taken_now i) (take (decoded i.hdr).len i.buf))) i.store
   unfolding send_done
@@ -482,7 +479,7 @@ module _ (i : SendIn) where
       (true_or_false (data_stays i))
 
 -- a packet that is done
-pub sent_done : (i : SendIn) (o : SendLeft) → o ≡ send_of i → o.answer.number ≡ 0 → send_answer i ≡ Done
+pub sent_done : (i : SendIn) (o : SendLeft) → o ≡ send_of i → o.answer.number ≡ 0 → send_answer i ≡ done
 sent_done i o says n = number_zero (send_answer i) (ap (λ (t : Told). t.number) (sym (send_number i o says)) ∙ n)
 
 leaves : (i : SendIn) (d : VsockConnection) (o : SendLeft) → Shape i d → o.conn ≡ d
@@ -617,7 +614,7 @@ module _ (i : NotifyIn) where
     pub count : (flushed i).count ≡ total
     pub ring_left : Numbers i.conn → (flushed i).ring ≡ taken_off ring total
 
-  flush_left : sound_of ring (length i.store) ≡ true → absorbed (flush_answer (flush_in i)) ≡ Done → Flushed
+  flush_left : sound_of ring (length i.store) ≡ true → absorbed (flush_answer (flush_in i)) ≡ done → Flushed
   unfolding flush_of flush_done flush_kept absorbed
   flush_left s a =
       ⊎_elim
@@ -641,7 +638,7 @@ module _ (i : NotifyIn) where
       })
       (true_or_false (is_done (flush_answer (flush_in i))))
 
-  module _ (d : notify_answer i ≡ Done) where
+  module _ (d : notify_answer i ≡ done) where
     sound : sound_of ring (length i.store) ≡ true
     unfolding notify_answer notify_door
     sound = sound_over_ring i.conn (length i.store) (record_passed _ _ refl (lowest_passed _ _ d).0)
@@ -654,7 +651,7 @@ module _ (i : NotifyIn) where
     pub within : flushes_now i ≡ true → total ≤ used_of ring
     within f = let c = (left f).count in let l = count_small (flush_in i) (flushed i) refl in omega arith
 
-  module _ (w : Numbers i.conn) (d : notify_answer i ≡ Done) where
+  module _ (w : Numbers i.conn) (d : notify_answer i ≡ done) where
     module _ (f : flushes_now i ≡ true) where
       abbrev count : ℕ
       count = wadd i.conn.fwd_cnt total
@@ -739,7 +736,7 @@ module _ (i : NotifyIn) where
         (idle_out f ∙ sym (when_false _ _ _ f)))
         (true_or_false (flushes_now i))
 
-pub notified_done : (i : NotifyIn) (o : NotifyLeft) → o ≡ notify_of i → o.answer.number ≡ 0 → notify_answer i ≡ Done
+pub notified_done : (i : NotifyIn) (o : NotifyLeft) → o ≡ notify_of i → o.answer.number ≡ 0 → notify_answer i ≡ done
 notified_done i o says n =
     number_zero (notify_answer i) (ap (λ (t : Told). t.number) (sym (notify_told i)) ∙ ap (λ (x : NotifyLeft). x.answer.number) (sym says) ∙ n)
 
@@ -747,7 +744,7 @@ pub every_notify_leaves : EveryNotifyLeaves
 unfolding notify_of notify_kept
 every_notify_leaves i o w says n =
     let z : o ≡ notify_done i = left_done (λ (x : NotifyLeft). x.answer) (notify_answer i) (notify_done i) (notify_kept i) o refl says n in
-    let d : notify_answer i ≡ Done = notified_done i o says n in
+    let d : notify_answer i ≡ done = notified_done i o says n in
     subst (NotifyLeaves i) (sym z) (event_leaves i w d)
 
 -- ---- openings
@@ -813,7 +810,7 @@ refused_is_zero = record {
 
 stopped_kind : (r h c l a m : Bool) (s : StreamAnswer) → (told (lowest_of (lowest_of (door_of r h c l) (late_of a m)) (stopped_by s))).number ≡ 10
     → (told (lowest_of (lowest_of (door_of r h c l) (late_of a m)) (stopped_by s))).failed ≡ failed s
-unfolding lowest_of door_of late_of when_done is_done when
+unfolding lowest_of door_of late_of when_done when
 stopped_kind true h c l a m s n = absurd (omega arith)
 stopped_kind false true c l a m s n = absurd (omega arith)
 stopped_kind false false true l a m s n = absurd (omega arith)

@@ -8,20 +8,17 @@ use native.Mathlib.Omega.{arith}
 use lib.Dec.{leb, eqb}
 use lib.ListN.{length, take}
 use borrow.Author.Tests.{ltb-false, eqb-true, eqb-false, eq-eqb, not-true}
-use Rattle.defs.specs.Answer.{Told, told, is_done, when_done}
+use Rattle.defs.specs.Answer.{Told, told, is_done, when_done, Answer, done}
 use Rattle.defs.specs.Choice.{when}
-use Rattle.defs.specs.Stream.{failed, read_counted}
+use Rattle.defs.specs.Stream.{failed, counted}
 use Rattle.defs.specs.Wrapping.{wadd, wsub}
-use Rattle.defs.specs.declared.answer.Answer.{Answer}
-use Rattle.defs.specs.declared.answer.Answer.TheVariants.{Done}
 use Rattle.defs.specs.declared.stream.StreamAnswer.{StreamAnswer}
 use Rattle.defs.specs.declared.stream.StreamAnswers.{StreamAnswers}
-use Rattle.defs.specs.declared.stream.ReadAnswer.{ReadAnswer}
 use Rattle.defs.proofs.Basics.{never, true_or_false, both, neither, and_false}
-use Rattle.defs.proofs.AnswerLaws.{number_zero, is_done_lem, when_not_done}
+use Rattle.defs.proofs.AnswerLaws.{number_zero, is_done_lem, when_not_done, when_done_alike, done_is_zero}
 use Rattle.defs.proofs.LadderLaws.{record_passed, lowest_refused, behind_two, left_alike}
 use Rattle.defs.specs.Promises.{Exactly}
-use Rattle.defs.proofs.MeansLaws.{not_held, same_means, and_means, equal_means}
+use Rattle.defs.proofs.MeansLaws.{not_held, same_means, and_means}
 use Rattle.defs.proofs.ChoiceLaws.{when_true, when_false, when_holds}
 use Rattle.defs.proofs.Promises.{told_tells_apart, credit_is_free_space}
 use Rattle.packet.specs.Header.{decoded}
@@ -97,10 +94,10 @@ second_alike i y u =
 says_none : (i : RecvIn) → reads_of i.conn i.present ≡ false → (said_by i).count ≡ 0
 says_none i e =
     let l = says_what_was_read i.conn.pending_rx i.conn.state (eqb (credit_of i.conn) 0) i.present i.answer in
-    let z : when (reads_of i.conn i.present) (read_counted i.answer) 0 ≡ 0 = when_false _ _ _ e in
+    let z : when (reads_of i.conn i.present) (counted i.answer) 0 ≡ 0 = when_false _ _ _ e in
     omega arith
 
-read_alike : (i : RecvIn) (a : ReadAnswer) (bytes : List ℕ) → reads_of i.conn i.present ≡ false → recv_of i ≡ recv_of (read_with i a bytes)
+read_alike : (i : RecvIn) (a : StreamAnswer) (bytes : List ℕ) → reads_of i.conn i.present ≡ false → recv_of i ≡ recv_of (read_with i a bytes)
 unfolding recv_of recv_done recv_kept recv_refusal
 read_alike i a bytes e =
     let c = i.conn in
@@ -113,8 +110,14 @@ read_alike i a bytes e =
 
 -- a door is passed where its number is 0
 open_means : (a : Answer) (t : Told) → t ≡ told a → Exactly (is_done a ≡ true) (t.number ≡ 0)
-unfolding is_done
-open_means a t e = rw e (equal_means (told a).number 0)
+open_means a t e = rw e (done_is_zero a)
+
+open_is : (a : Answer) (t : Told) → t ≡ told a → is_done a ≡ eqb t.number 0
+open_is a t e =
+    ⊎_elim
+    (λ (d : is_done a ≡ true). d ∙ sym (eq-eqb t.number 0 ((open_means a t e).0 d)))
+    (λ (d : is_done a ≡ false). d ∙ sym (not_held (eqb t.number 0) (λ z. (open_means a t e).1 (eqb-true _ 0 z)) (λ x. never (sym d ∙ x))))
+    (true_or_false (is_done a))
 
 shut : (a : Answer) (t : Told) → t ≡ told a → (t.number ≡ 0 → ⊥) → is_done a ≡ false
 shut a t e n = not_held (is_done a) (open_means a t e).0 n
@@ -237,7 +240,7 @@ sound_kept c d e s =
     let r : d.tx_buf ≡ c.tx_buf = ap (λ (a : Account). a.ring) e in
     sound_again c d (ap (λ (a : Account). a.settings) e) (ap (λ (b : TxBuf). b.size) r) (rw r s.held) s
 
-sound_opened : (size : ℕ) (g : Settings) → open_answer size g ≡ Done → InRange size g
+sound_opened : (size : ℕ) (g : Settings) → open_answer size g ≡ done → InRange size g
 unfolding open_answer
 sound_opened size g d = (settings_mean size g).0 (record_passed _ _ refl d)
 
@@ -263,7 +266,7 @@ sound_sent i o w v s =
     (when_holds (λ (x : List ℕ). length x ≡ length i.store) (data_stays i) _ _ (λ t. written_length b.size _ i.store b.head) (λ t. refl)) in
     (sound_again i.conn o.conn v.self.settings r.0 r.1 s.0, l ∙ s.1 ∙ sym r.0)
 
-sound_notified : (i : NotifyIn) (o : NotifyLeft) → Numbers i.conn → notify_answer i ≡ Done → NotifyLeaves i o → SoundOver i.conn (length i.store) → SoundOver o.conn (length i.store)
+sound_notified : (i : NotifyIn) (o : NotifyLeft) → Numbers i.conn → notify_answer i ≡ done → NotifyLeaves i o → SoundOver i.conn (length i.store) → SoundOver o.conn (length i.store)
 sound_notified i o w d v s =
     let b : TxBuf = i.conn.tx_buf in
     let n : ℕ = counted_now b i.answers in
@@ -278,12 +281,12 @@ sound_notified i o w d v s =
     (λ t. (refl, s.0.held))) in
     (sound_again i.conn o.conn v.self.settings r.0 r.1 s.0, s.1 ∙ sym r.0)
 
-fresh_sound : (o : Opening) (state : ConnState) (pending : PendingRxSet) → open_answer o.size o.settings ≡ Done → Sound (fresh_of o state pending)
+fresh_sound : (o : Opening) (state : ConnState) (pending : PendingRxSet) → open_answer o.size o.settings ≡ done → Sound (fresh_of o state pending)
 unfolding fresh_of
 fresh_sound o state pending d = record { settings = sound_opened o.size o.settings d; held = omega arith }
 
 made_sound : (a : Answer) (x y : VsockConnection) (left : ConnLeft) → left ≡ record { answer = told a; conn = when_done a x y } → left.answer.number ≡ 0
-    → (a ≡ Done → Sound x) → Sound left.conn
+    → (a ≡ done → Sound x) → Sound left.conn
 made_sound a x y left says n f =
     subst Sound (sym (made_done a x y left says n)) (f (number_zero a (ap (λ (x : ConnLeft). x.answer.number) (sym says) ∙ n)))
 
@@ -314,14 +317,9 @@ sound_stays_sound = record {
 -- ---- what a call took and accepted, in 01's words
 
 -- by the answer or by its number, where what it left is told
-by_number : {A : Type 0} (a : Answer) (t : Told) (x y z : A) → t ≡ told a → (a ≡ Done → x ≡ y) → when (eqb t.number 0) x z ≡ when_done a y z
-unfolding when_done is_done
-by_number a t x y z e f =
-    rw e
-    (⊎_elim
-    (λ (b : eqb (told a).number 0 ≡ true). when_true _ _ _ b ∙ f (number_zero a (eqb-true _ 0 b)) ∙ sym (when_true _ _ _ b))
-    (λ (b : eqb (told a).number 0 ≡ false). when_false _ _ _ b ∙ sym (when_false _ _ _ b))
-    (true_or_false (eqb (told a).number 0)))
+by_number : {A : Type 0} (a : Answer) (t : Told) (x y z : A) → t ≡ told a → (a ≡ done → x ≡ y) → when (eqb t.number 0) x z ≡ when_done a y z
+unfolding when_done
+by_number a t x y z e f = rw (← open_is a t e) (when_done_alike a x y z f)
 
 pub took_sent : (i : SendIn) (o : SendLeft) → o ≡ send_of i → send_took i o ≡ send_taken i
 unfolding send_taken plan_of
@@ -348,10 +346,6 @@ took_notified i o says =
     (true_or_false (flushes_now i)))
 
 -- ---- what a call would offer or ask for
-
-open_is : (a : Answer) (t : Told) → t ≡ told a → is_done a ≡ eqb t.number 0
-unfolding is_done
-open_is a t e = rw e
 
 due_is : (c : VsockConnection) (writable : Bool) → flush_due c writable ≡ writable && leb 1 (used_of c.tx_buf)
 unfolding quiet

@@ -10,11 +10,9 @@ use lib.Dec.{ltb, leb, eqb}
 use lib.ListN.{length, length-append}
 use borrow.Author.Tests.{eqb-true, eqb-false, leb-true, not-true, not-false}
 use Rattle.defs.specs.Choice.{when}
-use Rattle.defs.specs.Answer.{told, is_done, when_done}
+use Rattle.defs.specs.Answer.{told, is_done, when_done, Answer, done}
 use Rattle.defs.specs.Stream.{counted, failed}
 use Rattle.defs.specs.Ladder.{door_of, late_of, lowest_of, record_answer}
-use Rattle.defs.specs.declared.answer.Answer.{Answer}
-use Rattle.defs.specs.declared.answer.Answer.TheVariants.{Done}
 use Rattle.defs.specs.declared.stream.StreamAnswer.{StreamAnswer}
 use Rattle.defs.specs.declared.stream.StreamAnswer.TheVariants.{Count, WouldBlock, Failed}
 use Rattle.defs.proofs.Basics.{never, both, true_or_false, positive}
@@ -94,23 +92,23 @@ least d s (looks l) n m h = rw m.0 (le_refl _)
 
 -- a refusal 1, 5 or 6 is no 10
 not_ten : (s a n : Bool) → eqb (told (lowest_of (record_answer s) (late_of a n))).number 10 ≡ false
-unfolding lowest_of record_answer door_of late_of when when_done is_done
+unfolding lowest_of record_answer door_of late_of when when_done
 not_ten false a n = refl
 not_ten true true n = refl
 not_ten true false true = refl
 not_ten true false false = refl
 
-ends_done : (n k : ℕ) (a : StreamAnswer) → a ≡ Count (suc k) → ends_by n a ≡ Done
+ends_done : (n k : ℕ) (a : StreamAnswer) → a ≡ Count (suc k) → ends_by n a ≡ done
 unfolding ends_by
-ends_done n k a e = rw e (when_same Done (eqb n 0))
+ends_done n k a e = rw e (when_same done (eqb n 0))
 
 -- the flush within is done, where its first write takes a byte
-flush_done_lem : (i : FlushIn) (k : ℕ) → i.answers.first ≡ Count (suc k) → absorbed (flush_answer i) ≡ Done → flush_answer i ≡ Done
+flush_done_lem : (i : FlushIn) (k : ℕ) → i.answers.first ≡ Count (suc k) → absorbed (flush_answer i) ≡ done → flush_answer i ≡ done
 unfolding flush_answer absorbed
 flush_done_lem i k f e =
     let early : Answer = lowest_of (record_answer (sound_of i.ring (length i.store))) (late_of (flush_over i) (ltb (length i.out) (flush_count i))) in
     let z : flush_answer i ≡ early = ap (lowest_of early) (ends_done _ k _ f) ∙ lowest_end early in
-    sym (when_false Done (flush_answer i) _ (ap (λ (a : Answer). eqb (told a).number 10) z ∙ not_ten _ _ _)) ∙ e
+    sym (when_false done (flush_answer i) _ (ap (λ (a : Answer). eqb (told a).number 10) z ∙ not_ten _ _ _)) ∙ e
 
 -- an answer that counts at least one byte
 record Takes (a : StreamAnswer) : Type 0 where
@@ -127,23 +125,23 @@ takes WouldBlock e = absurd (never e)
 takes Failed e = absurd (never e)
 
 -- what is left in the ring is what the flush left
-drained_ring : (i : NotifyIn) → notify_answer i ≡ Done → due i ≡ true → (notify_of i).conn.tx_buf ≡ (flushed i).ring
+drained_ring : (i : NotifyIn) → notify_answer i ≡ done → due i ≡ true → (notify_of i).conn.tx_buf ≡ (flushed i).ring
 unfolding account notify_of notify_done
 drained_ring i d u =
     ap (λ (o : NotifyLeft). o.conn.tx_buf) (when_done_lem (notify_answer i) (notify_done i) (notify_kept i) d)
     ∙ ap (λ (c : VsockConnection). c.tx_buf) (when_true _ _ _ u)
     ∙ ap (λ (a : Account). a.ring) (drain_counts i.conn i.readable (flushed i).ring (flushed i).count (quiet (flushed i).ring) (failed i.answers.first))
 
-falls : (i : NotifyIn) (k : ℕ) → Numbers i.conn → notify_answer i ≡ Done → due i ≡ true → i.answers.first ≡ Count (suc k) → 0 < held_by i.conn
+falls : (i : NotifyIn) (k : ℕ) → Numbers i.conn → notify_answer i ≡ done → due i ≡ true → i.answers.first ≡ Count (suc k) → 0 < held_by i.conn
     → held_by (notify_of i).conn < held_by i.conn
 unfolding notify_answer
 falls i k n d u f l =
-    let a : absorbed (flush_answer (flush_in i)) ≡ Done = sym (when_true _ _ _ u) ∙ (lowest_passed _ _ d).1 in
-    let x : flush_answer (flush_in i) ≡ Done = flush_done_lem (flush_in i) k f a in
+    let a : absorbed (flush_answer (flush_in i)) ≡ done = sym (when_true _ _ _ u) ∙ (lowest_passed _ _ d).1 in
+    let x : flush_answer (flush_in i) ≡ done = flush_done_lem (flush_in i) k f a in
     rw (drained_ring i d u) (flush_progresses (flush_in i) (flushed i) k n.ring refl (flushed_told (flush_in i) x) f l)
 
 -- the answer of an event, by its number
-answered : (i : NotifyIn) → (notify_of i).answer.number ≡ 0 → notify_answer i ≡ Done
+answered : (i : NotifyIn) → (notify_of i).answer.number ≡ 0 → notify_answer i ≡ done
 unfolding notify_of notify_kept
 answered i e =
     ⊎_elim
@@ -166,7 +164,7 @@ out_falls d s (receives i o) w m x = absurd (never x)
 out_falls d s (notifies i o) w m x =
     let p = both (i.writable && eqb o.answer.number 0) _ x in
     let q = both i.writable (eqb o.answer.number 0) p.0 in
-    let a : notify_answer i ≡ Done = answered i (ap (λ (y : NotifyLeft). y.answer.number) (sym m.2) ∙ eqb-true _ _ q.1) in
+    let a : notify_answer i ≡ done = answered i (ap (λ (y : NotifyLeft). y.answer.number) (sym m.2) ∙ eqb-true _ _ q.1) in
     let l = notify_lengths d o.conn s s _ (event_moves d s (notifies i o) w m) in
     let c : held_by i.conn ≡ held_by d = ap held_by m.0 in
     ⊎_elim

@@ -11,9 +11,8 @@ use lib.ListN.{length, take, drop, length-drop, take-append-drop}
 use lib.Seq.{length-take-le, take_at}
 use borrow.Author.Tests.{eqb-true}
 use Rattle.defs.specs.Choice.{when}
-use Rattle.defs.specs.Answer.{told, is_done, when_done}
+use Rattle.defs.specs.Answer.{told, is_done, when_done, done}
 use Rattle.defs.specs.Wrapping.{wadd}
-use Rattle.defs.specs.declared.answer.Answer.TheVariants.{Done}
 use Rattle.defs.proofs.Basics.{both, true_or_false}
 use Rattle.defs.proofs.ChoiceLaws.{when_true, when_false, when_holds}
 use Rattle.defs.proofs.AnswerLaws.{is_done_lem, when_done_lem, when_not_done}
@@ -27,7 +26,7 @@ use Rattle.txbuf.proofs.PushLaws.{push_is_done, push_appends}
 use Rattle.txbuf.proofs.FlushLaws.{count_small, flush_takes_oldest, flush_wide}
 use Rattle.csm.specs.State.{takes, is_local_init, both_off}
 use Rattle.csm.specs.declared.row.Row.{Row}
-use Rattle.csm.specs.declared.timer.Timer.{Timer}
+use Rattle.csm.specs.Timer.{Timer}
 use Rattle.csm.specs.declared.pending.PendingRxSet.{PendingRxSet}
 use Rattle.csm.specs.declared.state.ConnState.{ConnState}
 use Rattle.rules.specs.Record.{quiet, with_state, killed_of}
@@ -175,12 +174,12 @@ gone i w s g = record {
       ⊎_elim
       (λ (k : send_kills i ≡ true).
       let n = goes_unless (send_plan i).goes (send_kills i) true g k in
-      let c : send_carried i ≡ record { answer = told Done; ring = i.conn.tx_buf; store = i.store } = when_false _ _ _ n in
+      let c : send_carried i ≡ record { answer = told done; ring = i.conn.tx_buf; store = i.store } = when_false _ _ _ n in
       ap (λ (o : PushLeft). t ++ held o.ring o.store) c ∙ swaps t h (none_or_empty i) ∙ ap (λ (x : List ℕ). h ++ x) (sym (when_true _ _ _ k)))
       (λ (k : send_kills i ≡ false).
       let y = goes_unless (send_plan i).goes (send_kills i) false g k in
       let j : PushIn = record { ring = i.conn.tx_buf; store = i.store; src = drop (send_plan i).written (payload i) } in
-      let d : push_answer_of j ≡ Done = ap (push_answer i.conn.tx_buf (length i.store)) (length-drop (send_plan i).written (payload i)) ∙ (carries i s).pushes y in
+      let d : push_answer_of j ≡ done = ap (push_answer i.conn.tx_buf (length i.store)) (length-drop (send_plan i).written (payload i)) ∙ (carries i s).pushes y in
       let c : send_carried i ≡ push_of j = when_true _ _ _ y ∙ sym (push_is_done j d) in
       let a : held (push_of j).ring (push_of j).store ≡ h ++ drop (send_plan i).written (payload i) = push_appends j (push_of j) w refl (ap (λ (o : PushLeft). o.answer) (push_is_done j d)) in
       ap (λ (o : PushLeft). t ++ held o.ring o.store) c
@@ -231,7 +230,7 @@ abbrev SendMoved : SendIn → SendLeft → Type 0
 SendMoved i left =
     Moved i.conn left.conn (held i.conn.tx_buf i.store) (held left.conn.tx_buf left.store) (take (send_taken i) left.out) (accepted i)
 
-data_moves : (i : SendIn) → Numbers i.conn → send_answer i ≡ Done → (send_plan i).goes ≡ true → SendMoved i (send_done i)
+data_moves : (i : SendIn) → Numbers i.conn → send_answer i ≡ done → (send_plan i).goes ≡ true → SendMoved i (send_done i)
 unfolding account send_taken accepted send_done
 data_moves i n d g =
     let s = passed i d in
@@ -252,7 +251,7 @@ data_moves i n d g =
       numbers = numbers_of (send_done i).conn _ o.ring (carried_wide _ _ _ _ n.ring) (mod-lt (i.conn.fwd_cnt + (send_plan i).written) (omega arith));
     }
 
-no_data_moves : (i : SendIn) → Numbers i.conn → send_answer i ≡ Done → (send_plan i).goes ≡ false → SendMoved i (send_done i)
+no_data_moves : (i : SendIn) → Numbers i.conn → send_answer i ≡ done → (send_plan i).goes ≡ false → SendMoved i (send_done i)
 unfolding send_taken accepted send_done carried
 no_data_moves i n d g =
     let z = no_data i g in
@@ -303,7 +302,7 @@ abbrev NotifyMoved : NotifyIn → NotifyLeft → Type 0
 NotifyMoved i left =
     Moved i.conn left.conn (held i.conn.tx_buf i.store) (held left.conn.tx_buf i.store) (take (notify_taken i) left.out) []
 
-flush_moves : (i : NotifyIn) → Numbers i.conn → notify_answer i ≡ Done → due i ≡ true → NotifyMoved i (notify_done i)
+flush_moves : (i : NotifyIn) → Numbers i.conn → notify_answer i ≡ done → due i ≡ true → NotifyMoved i (notify_done i)
 unfolding account notify_taken notify_done
 flush_moves i n d u =
     let h : List ℕ = held i.conn.tx_buf i.store in
@@ -341,7 +340,7 @@ none_taken i left n t e =
       numbers = s.numbers;
     }
 
-seen_moves : (i : NotifyIn) → Numbers i.conn → notify_answer i ≡ Done → due i ≡ false → NotifyMoved i (notify_done i)
+seen_moves : (i : NotifyIn) → Numbers i.conn → notify_answer i ≡ done → due i ≡ false → NotifyMoved i (notify_done i)
 unfolding notify_taken notify_done
 seen_moves i n d u =
     none_taken i (notify_done i) n (when_done_lem _ _ _ d ∙ when_false _ _ _ u) (ap account (when_false _ _ _ u) ∙ see_account i.conn i.readable)

@@ -8,9 +8,8 @@ use native.Mathlib.Omega.{arith}
 use lib.ListN.{length, take, drop}
 use lib.Seq.{take_at, length-take-le}
 use borrow.Author.Tests.{not-false}
-use Rattle.defs.specs.Answer.{is_done}
+use Rattle.defs.specs.Answer.{is_done, done}
 use Rattle.defs.specs.Ladder.{record_answer}
-use Rattle.defs.specs.declared.answer.Answer.TheVariants.{Done}
 use Rattle.defs.proofs.Basics.{true_or_false, both}
 use Rattle.defs.proofs.ChoiceLaws.{when_true, when_false}
 use Rattle.defs.proofs.AnswerLaws.{is_done_lem, done_is_done, when_done_lem, when_not_done}
@@ -32,7 +31,7 @@ use Rattle.rules.proofs.SendLaws.{passed}
 -- ---- `send_pkt`
 
 -- what it counts as written is the front of what it offers
-written_off : (i : SendIn) → send_answer i ≡ Done → take (send_plan i).written (payload i) ≡ take (send_plan i).written (send_offers i)
+written_off : (i : SendIn) → send_answer i ≡ done → take (send_plan i).written (payload i) ≡ take (send_plan i).written (send_offers i)
 unfolding send_answer send_offered send_writes plan_of
 written_off i d =
     ⊎_elim
@@ -46,7 +45,7 @@ written_off i d =
     rw z)
     (true_or_false (writes_of i.conn (pkt_of i).op i.present))
 
-off_done : (i : SendIn) → send_answer i ≡ Done → take (send_plan i).written (send_done i).out ≡ take (send_plan i).written (send_offers i)
+off_done : (i : SendIn) → send_answer i ≡ done → take (send_plan i).written (send_done i).out ≡ take (send_plan i).written (send_offers i)
 unfolding send_done
 off_done i d =
     let s = passed i d in
@@ -95,7 +94,7 @@ notify_offers_pieces c writable store n =
     rw (when_false (first_piece c.tx_buf store) [] _ t, when_false (second_piece c.tx_buf store) [] _ t, when_false (held c.tx_buf store) [] _ t))
     (true_or_false (notify_flushes c writable (length store)))
 
-flushed_off : (i : NotifyIn) → Numbers i.conn → notify_answer i ≡ Done → due i ≡ true → take (flushed i).count (notify_done i).out ≡ take (flushed i).count (notify_offers i)
+flushed_off : (i : NotifyIn) → Numbers i.conn → notify_answer i ≡ done → due i ≡ true → take (flushed i).count (notify_done i).out ≡ take (flushed i).count (notify_offers i)
 unfolding notify_done notify_answer notify_offered notify_flushes
 flushed_off i n d u =
     let h : List ℕ = held i.conn.tx_buf i.store in

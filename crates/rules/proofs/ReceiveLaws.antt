@@ -9,8 +9,8 @@ use lib.ListN.{length}
 use borrow.Author.Tests.{ltb-false, not-false}
 use Rattle.defs.specs.Choice.{when}
 use Rattle.defs.specs.Limits.{max_packet, header_size, is_packet_length}
-use Rattle.defs.specs.Stream.{read_counted}
-use Rattle.defs.specs.declared.answer.Answer.TheVariants.{Done}
+use Rattle.defs.specs.Stream.{counted}
+use Rattle.defs.specs.Answer.{done}
 use Rattle.defs.proofs.Basics.{neither, true_or_false}
 use Rattle.defs.proofs.LadderLaws.{lowest_passed, door_passed, late_passed}
 use Rattle.defs.proofs.LimitLaws.{header_length, clock_within, packet_length}
@@ -20,7 +20,7 @@ use Rattle.rules.specs.Record.{credit_of}
 use Rattle.rules.specs.Receive.{Receivable, RecvIn, recv_door, reads_of, asked_of, recv_refusal, refusal_of, said_by}
 use Rattle.rules.proofs.RecordLaws.{timeouts}
 
-count_at_most : (i : RecvIn) → (said_by i).count ≤ when (reads_of i.conn i.present) (read_counted i.answer) 0
+count_at_most : (i : RecvIn) → (said_by i).count ≤ when (reads_of i.conn i.present) (counted i.answer) 0
 count_at_most i = says_what_was_read i.conn.pending_rx i.conn.state (eqb (credit_of i.conn) 0) i.present i.answer
 
 -- ---- what a refusal that passed says
@@ -35,12 +35,12 @@ within true asked n read k e l =
 within false asked n read k e l = (omega arith, omega arith)
 
 -- what is read lies within what was asked
-pub asked_at_most : (i : RecvIn) → refusal_of i ≡ Done → (said_by i).count ≤ when (reads_of i.conn i.present) (asked_of i.conn (length i.buf)) 0
+pub asked_at_most : (i : RecvIn) → refusal_of i ≡ done → (said_by i).count ≤ when (reads_of i.conn i.present) (asked_of i.conn (length i.buf)) 0
 unfolding recv_refusal when
 asked_at_most i d = by (reads_of i.conn i.present) (late_passed _ _ (lowest_passed _ _ d).1).answer_ok (count_at_most i)
   where
-    by : (reads : Bool) → reads && (ltb (asked_of i.conn (length i.buf)) (read_counted i.answer) || ltb (length i.read) (read_counted i.answer)) ≡ false
-        → (said_by i).count ≤ when reads (read_counted i.answer) 0 → (said_by i).count ≤ when reads (asked_of i.conn (length i.buf)) 0
+    by : (reads : Bool) → reads && (ltb (asked_of i.conn (length i.buf)) (counted i.answer) || ltb (length i.read) (counted i.answer)) ≡ false
+        → (said_by i).count ≤ when reads (counted i.answer) 0 → (said_by i).count ≤ when reads (asked_of i.conn (length i.buf)) 0
     by true e l = (within true _ _ _ _ e l).0
     by false e l = l
 
@@ -61,13 +61,13 @@ small i e l =
     omega arith)
     (true_or_false i.present)
 
-pub passed : (i : RecvIn) → refusal_of i ≡ Done → Passed i
+pub passed : (i : RecvIn) → refusal_of i ≡ done → Passed i
 unfolding recv_refusal recv_door
 passed i d =
     let u = lowest_passed _ _ d in
     let p = door_passed _ _ _ _ u.0 in
     let o = (late_passed _ _ u.1).answer_ok in
-    let f = within (reads_of i.conn i.present) (asked_of i.conn (length i.buf)) (read_counted i.answer) (length i.read) (said_by i).count o (count_at_most i) in
+    let f = within (reads_of i.conn i.present) (asked_of i.conn (length i.buf)) (counted i.answer) (length i.read) (said_by i).count o (count_at_most i) in
     let b : (said_by i).count ≤ length i.buf = let x = f.0 in omega arith in
     let t = timeouts i.conn (not-false _ p.record_ok) in
     record {

@@ -4,8 +4,7 @@ use mathlib.Core.Path.{◌≡◌, refl, ap}
 use mathlib.Core.Bool.{Bool, true, false}
 use mathlib.Core.List.{List, []}
 use native.Mathlib.Omega.{arith}
-use Rattle.defs.specs.Answer.{is_done, when_done}
-use Rattle.defs.specs.declared.answer.Answer.{Answer}
+use Rattle.defs.specs.Answer.{is_done, when_done, Answer}
 use Rattle.defs.proofs.ChoiceLaws.{when_holds}
 use Rattle.runs.specs.Promises.{Keeps, EachMoves, Begins}
 use Rattle.runs.proofs.Promises as any

@@ -9,7 +9,7 @@ use lib.Seq.{length-take-le}
 use borrow.Author.Tests.{ltb-false, not-true, not-false}
 use Rattle.defs.specs.Choice.{when}
 use Rattle.defs.specs.Limits.{max_packet, is_packet_length}
-use Rattle.defs.specs.declared.answer.Answer.TheVariants.{Done}
+use Rattle.defs.specs.Answer.{done}
 use Rattle.defs.proofs.Basics.{never, neither}
 use Rattle.defs.proofs.LadderLaws.{lowest_passed, door_passed, late_passed}
 use Rattle.defs.proofs.LimitLaws.{clock_within, packet_length}
@@ -43,7 +43,7 @@ pub record Passed (i : SendIn) : Type 0 where
   pub part : (send_plan i).len ≤ length i.buf
   pub room : (send_plan i).written ≤ length i.out
 
-pub passed : (i : SendIn) → send_answer i ≡ Done → Passed i
+pub passed : (i : SendIn) → send_answer i ≡ done → Passed i
 unfolding send_answer send_door send_door_of send_late plan_of goes_of
 passed i d =
     let u = lowest_passed _ _ d in

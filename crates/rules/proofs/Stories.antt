@@ -5,8 +5,9 @@ use mathlib.Core.Bool.{true, false}
 use mathlib.Core.List.{List, [], ◌∷◌, ◌++◌}
 use native.Mathlib.Omega.{arith}
 use lib.ListN.{take, replicate}
+use Rattle.std.specs.Prelude.{Some}
 use Rattle.defs.specs.Choice.{when}
-use Rattle.defs.specs.Answer.{is_done, when_done}
+use Rattle.defs.specs.Answer.{when_done}
 use Rattle.defs.specs.Limits.{is_ring_size, is_threshold, is_timeout, is_clock, is_packet_length, is_header_length}
 use Rattle.defs.specs.Ladder.{door_of, late_of, lowest_of, record_answer, clock_answer}
 use Rattle.defs.specs.Copying.{copied}
@@ -23,7 +24,6 @@ use Rattle.csm.specs.Turn.{turn_step, turn_reads}
 use Rattle.csm.specs.Pending.{reset_only}
 use Rattle.csm.specs.declared.state.ConnState.{ConnState}
 use Rattle.csm.specs.declared.state.ConnState.TheVariants.{LocalInit, PeerInit, Established, LocalClosed, PeerClosed, Killed}
-use Rattle.csm.specs.declared.timer.Timer.TheVariants.{At}
 use Rattle.rules.specs.Record.{ok_settings, sound_conn, sound_over, quiet, credit_of, with_state, killed_of}
 use Rattle.rules.specs.Notify.{seen_of, absorbed, settled_of, drained_of, notify_door, notify_answer, notify_done, notify_kept, notify_of}
 use Rattle.rules.specs.Look.{kill_of}
@@ -146,7 +146,7 @@ record Computed : Type 0 where
   half_off : (after a5).state ≡ PeerClosed true false
   both_off : (after a6).state ≡ PeerClosed true true
   held_6 : used_of (after a6).tx_buf ≡ 6
-  timer_6 : (after a6).expiry ≡ At 2000
+  timer_6 : (after a6).expiry ≡ Some 2000
   header : gathered delivered_by story_a ≡ bytes_a ∷ []
   head_2 : (after d2).tx_buf.head ≡ 2
   head_3 : (after d3).tx_buf.head ≡ 2
@@ -171,7 +171,7 @@ record Computed : Type 0 where
   by_hand : (after (turn by_hand)).state ≡ Established
 
 computed : Computed
-unfolding when is_done when_done is_ring_size is_threshold is_timeout is_clock is_packet_length is_header_length door_of late_of lowest_of record_answer clock_answer copied peer_avail_credit peer_needs_credit_update encoded decoded sound_record sound_of held_from held runs push_done taken_by over_by ends_by flush_count flush_over flush_answer flush_done flush_kept flush_of ok_settings sound_conn sound_over quiet credit_of with_state killed_of seen_of absorbed settled_of drained_of notify_door notify_answer notify_done notify_kept notify_of fresh_of open_answer peer_init_of local_init_of turn_step spoken_of received_of header_of recv_door turn_reads recv_refusal recv_done recv_kept recv_of heard_of moved_of updated_of on_response on_shutdown on_data rule_of goes_of plan_of kills_of send_door_of send_late carried send_door send_answer send_done send_kept send_of gathered runs.outs kill_of
+unfolding when when_done is_ring_size is_threshold is_timeout is_clock is_packet_length is_header_length door_of late_of lowest_of record_answer clock_answer copied peer_avail_credit peer_needs_credit_update encoded decoded sound_record sound_of held_from held runs push_done taken_by over_by ends_by flush_count flush_over flush_answer flush_done flush_kept flush_of ok_settings sound_conn sound_over quiet credit_of with_state killed_of seen_of absorbed settled_of drained_of notify_door notify_answer notify_done notify_kept notify_of fresh_of open_answer peer_init_of local_init_of turn_step spoken_of received_of header_of recv_door turn_reads recv_refusal recv_done recv_kept recv_of heard_of moved_of updated_of on_response on_shutdown on_data rule_of goes_of plan_of kills_of send_door_of send_late carried send_door send_answer send_done send_kept send_of gathered runs.outs kill_of
 computed = record {
   taken_a = refl;
   accepted_a = refl;

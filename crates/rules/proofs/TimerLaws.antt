@@ -7,9 +7,9 @@ use mathlib.Core.List.{List}
 use native.Mathlib.Omega.{arith}
 use lib.Dec.{eqb}
 use borrow.Author.Tests.{leb-true, le-leb, eqb-true, not-true}
-use Rattle.defs.specs.Answer.{Told, told, is_done}
+use Rattle.std.specs.Prelude.{None, Some}
+use Rattle.defs.specs.Answer.{Told, told, is_done, Answer}
 use Rattle.defs.specs.Choice.{when}
-use Rattle.defs.specs.declared.answer.Answer.{Answer}
 use Rattle.defs.proofs.AnswerLaws.{is_done_lem, when_not_done, when_done_holds}
 use Rattle.defs.proofs.Basics.{never, both, both_true, true_or_false}
 use Rattle.defs.proofs.ChoiceLaws.{when_true, when_false, when_holds}
@@ -27,8 +27,7 @@ use Rattle.csm.specs.declared.row.Arms.{Arms}
 use Rattle.csm.specs.declared.row.Arms.TheVariants.{Keep, Wait, Linger}
 use Rattle.csm.specs.declared.state.ConnState.{ConnState}
 use Rattle.csm.specs.declared.state.ConnState.TheVariants.{LocalInit, PeerInit, Established, LocalClosed, PeerClosed, Killed}
-use Rattle.csm.specs.declared.timer.Timer.{Timer}
-use Rattle.csm.specs.declared.timer.Timer.TheVariants.{Unset, At}
+use Rattle.csm.specs.Timer.{Timer}
 use Rattle.csm.proofs.MeansLaws.{unset, both_shut, open_yet}
 use Rattle.rules.specs.Record.{with_state, killed_of}
 use Rattle.rules.specs.Look.{look_answer, kill_of}
@@ -49,7 +48,7 @@ use Rattle.rules.proofs.RunLaws.{numbers_kept, begun_numbers, opening}
 -- ---- tables
 
 -- a RESPONSE arms nothing
-cleared_set : (s : ConnState) (t : Timer) (time : ℕ) → cleared s t ≡ At time → t ≡ At time
+cleared_set : (s : ConnState) (t : Timer) (time : ℕ) → cleared s t ≡ Some time → t ≡ Some time
 cleared_set LocalInit t time e = absurd (unset time e)
 cleared_set PeerInit t time e = e
 cleared_set Established t time e = e
@@ -72,25 +71,25 @@ module _ (i : SendIn) where
   state_shut o v e = v.state ∙ rw (not_met i (ap (λ (n : ℕ). eqb n op_rw) e), e)
 
   -- a timer that was not there before was set by a SHUTDOWN, where none ran
-  armed_by : (time : ℕ) → (i.conn.expiry ≡ At time → ⊥) → timer_now i ≡ At time → (eqb (decoded i.hdr).op op_shutdown && lingers_now i ≡ true) × (i.conn.expiry ≡ Unset) × (time ≡ linger_time)
+  armed_by : (time : ℕ) → (i.conn.expiry ≡ Some time → ⊥) → timer_now i ≡ Some time → (eqb (decoded i.hdr).op op_shutdown && lingers_now i ≡ true) × (i.conn.expiry ≡ None) × (time ≡ linger_time)
   armed_by time f e =
       ⊎_elim
       (λ (a : eqb (decoded i.hdr).op op_response ≡ true). absurd (f (cleared_set i.conn.state i.conn.expiry time (sym (when_true _ _ _ a) ∙ e))))
       (λ (a : eqb (decoded i.hdr).op op_response ≡ false).
       ⊎_elim
       (λ (b : eqb (decoded i.hdr).op op_shutdown && lingers_now i ≡ true).
-      let z : unless_running i.conn.expiry linger_time ≡ At time = sym (when_true _ _ _ b) ∙ sym (when_false _ _ _ a) ∙ e in
+      let z : unless_running i.conn.expiry linger_time ≡ Some time = sym (when_true _ _ _ b) ∙ sym (when_false _ _ _ a) ∙ e in
       let w = made i.conn.expiry z f in
       (b, w.0, w.1))
       (λ (b : eqb (decoded i.hdr).op op_shutdown && lingers_now i ≡ false). absurd (f (sym (when_false _ _ _ b) ∙ sym (when_false _ _ _ a) ∙ e)))
       (true_or_false (eqb (decoded i.hdr).op op_shutdown && lingers_now i)))
       (true_or_false (eqb (decoded i.hdr).op op_response))
     where
-      made : (t : Timer) → unless_running t linger_time ≡ At time → (t ≡ At time → ⊥) → (t ≡ Unset) × (time ≡ linger_time)
-      made Unset z g = (refl, cc)
-      made (At r) z g = absurd (g z)
+      made : (t : Timer) → unless_running t linger_time ≡ Some time → (t ≡ Some time → ⊥) → (t ≡ None) × (time ≡ linger_time)
+      made None z g = (refl, cc)
+      made (Some r) z g = absurd (g z)
 
-  sets : (o : SendLeft) (time : ℕ) → SendLeaves i o → o.conn.expiry ≡ timer_now i → (i.conn.expiry ≡ At time → ⊥) × (o.conn.expiry ≡ At time)
+  sets : (o : SendLeft) (time : ℕ) → SendLeaves i o → o.conn.expiry ≡ timer_now i → (i.conn.expiry ≡ Some time → ⊥) × (o.conn.expiry ≡ Some time)
       → ArmsNow i o × (time ≡ linger_time)
   sets o time v t p =
       let a = armed_by time p.0 (sym t ∙ p.1) in
@@ -109,16 +108,16 @@ module _ (i : SendIn) where
       )
 
   is_set : (o : SendLeft) (time : ℕ) → SendLeaves i o → o.conn.expiry ≡ timer_now i → ArmsNow i o → time ≡ linger_time
-      → (i.conn.expiry ≡ At time → ⊥) × (o.conn.expiry ≡ At time)
+      → (i.conn.expiry ≡ Some time → ⊥) × (o.conn.expiry ≡ Some time)
   is_set o time v t b e =
       let s : shut_both (closed_now i) ≡ true = ap shut_both (sym (state_shut o v b.op) ∙ b.after) in
       let l : lingers_now i ≡ true = both_true _ _ (both_true _ _ s (open_yet i.conn.state b.before)) (le-leb 1 _ b.held) in (
         λ z. unset time (sym b.idle ∙ z),
-        t ∙ timer_shut b.op ∙ when_true _ _ _ l ∙ ap (λ (x : Timer). unless_running x linger_time) b.idle ∙ ap At (sym e),
+        t ∙ timer_shut b.op ∙ when_true _ _ _ l ∙ ap (λ (x : Timer). unless_running x linger_time) b.idle ∙ ap Some (sym e),
       )
 
-  stays_set : (time : ℕ) → (decoded i.hdr).op ≡ op_shutdown → i.conn.expiry ≡ At time → timer_now i ≡ At time
-  stays_set time e t = timer_shut e ∙ when_holds (λ (x : Timer). x ≡ At time) (lingers_now i) _ _ (λ l. ap (λ (x : Timer). unless_running x linger_time) t) (λ l. t)
+  stays_set : (time : ℕ) → (decoded i.hdr).op ≡ op_shutdown → i.conn.expiry ≡ Some time → timer_now i ≡ Some time
+  stays_set time e t = timer_shut e ∙ when_holds (λ (x : Timer). x ≡ Some time) (lingers_now i) _ _ (λ l. ap (λ (x : Timer). unless_running x linger_time) t) (λ l. t)
 
 pub shutdown_arms : ShutdownArms
 unfolding send_of send_kept
@@ -140,13 +139,13 @@ shutdown_arms = record {
 
 -- shut both ways and bytes held: a timer is set
 abbrev HasTimer : VsockConnection → Type 0
-HasTimer c = c.state ≡ PeerClosed true true → 1 ≤ used_of c.tx_buf → c.expiry ≡ Unset → ⊥
+HasTimer c = c.state ≡ PeerClosed true true → 1 ≤ used_of c.tx_buf → c.expiry ≡ None → ⊥
 
 -- one record waits for no more than another did
 record NoLonger (c d : VsockConnection) : Type 0 where
   state : d.state ≡ PeerClosed true true → c.state ≡ PeerClosed true true
   held : d.state ≡ PeerClosed true true → 1 ≤ used_of d.tx_buf → 1 ≤ used_of c.tx_buf
-  timer : d.state ≡ PeerClosed true true → d.expiry ≡ Unset → c.expiry ≡ Unset
+  timer : d.state ≡ PeerClosed true true → d.expiry ≡ None → c.expiry ≡ None
 
 no_longer : (c d : VsockConnection) → NoLonger c d → HasTimer c → HasTimer d
 no_longer c d w f s h t = f (w.state s) (w.held s h) (w.timer s t)
@@ -168,10 +167,10 @@ no_data : (i : SendIn) → i.conn.state ≡ PeerClosed true true → meets_data 
 no_data i e = ap (λ (s : ConnState). takes_data s && i.present && eqb (decoded i.hdr).op op_rw) e
 
 -- a SHUTDOWN that leaves no timer found none, and was not one that arms
-still_unset : (b : Bool) (t : Timer) (time : ℕ) → when b (unless_running t time) t ≡ Unset → (t ≡ Unset) × (b ≡ false)
+still_unset : (b : Bool) (t : Timer) (time : ℕ) → when b (unless_running t time) t ≡ None → (t ≡ None) × (b ≡ false)
 unfolding when
-still_unset true Unset time e = absurd (unset time (sym e))
-still_unset true (At r) time e = absurd (unset r (sym e))
+still_unset true None time e = absurd (unset time (sym e))
+still_unset true (Some r) time e = absurd (unset r (sym e))
 still_unset false t time e = (e, refl)
 
 module _ (i : SendIn) (o : SendLeft) (v : SendLeaves i o) (t : o.conn.expiry ≡ timer_now i) where
@@ -247,7 +246,7 @@ same_both Same s e = e
 same_both Opens s e = absurd (never (ap shut_both e))
 same_both Closes s e = absurd (never (ap shut_both e))
 
-same_timer : (x : Arms) (t : Timer) (wait linger : ℕ) → armed x t (At wait) (At linger) ≡ Unset → t ≡ Unset
+same_timer : (x : Arms) (t : Timer) (wait linger : ℕ) → armed x t (Some wait) (Some linger) ≡ None → t ≡ None
 same_timer Keep t wait linger e = e
 same_timer Wait t wait linger e = absurd (unset wait (sym e))
 same_timer Linger t wait linger e = absurd (unset linger (sym e))

@@ -5,7 +5,7 @@ use Rattle.defs.specs.Answer.{Told}
 use Rattle.defs.specs.Credit.{peer_avail_credit}
 use Rattle.defs.specs.Look.{FlagLeft}
 use Rattle.defs.specs.Promises.{Exactly, PowerOfTwo, AnswersInTurn}
-use Rattle.defs.specs.Stream.{counted, read_counted, stops}
+use Rattle.defs.specs.Stream.{counted, stops}
 use Rattle.packet.specs.Header.{decoded}
 use Rattle.packet.specs.Uapi.{op_rw}
 use Rattle.txbuf.specs.Means.{bytes_held, counted_now, CountsTooMuch}
@@ -111,7 +111,7 @@ recv_rows i =
     ∷ (2, length i.hdr ≡ 44 → ⊥)
     ∷ (3, 2 ^ 62 < i.clock)
     ∷ (4, (i.present ≡ true) × (65536 < length i.buf))
-    ∷ (5, Reads (turn_of i) × ((asked_now i < read_counted i.answer) ⊎ (length i.read < read_counted i.answer)))
+    ∷ (5, Reads (turn_of i) × ((asked_now i < counted i.answer) ⊎ (length i.read < counted i.answer)))
     ∷ (7, NothingToSay (turn_of i))
     ∷ (8, BufferMissing (turn_of i))
     ∷ []

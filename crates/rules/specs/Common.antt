@@ -1,14 +1,12 @@
 -- What calls have in common, said over what they were given and what they left: killing, timers, what the guest was told, answers that are not reached,
 -- soundness, room at the guest, and what they would offer. Assumes nothing.
-use Rattle.std.specs.Prelude.{ℕ, ◌+◌, ◌-◌, ◌%◌, ◌^◌, ◌<◌, ◌≤◌, ◌≡◌, Bool, true, false, ◌&&◌, List, [], ◌++◌, leb, eqb, length, take, drop}
+use Rattle.std.specs.Prelude.{ℕ, ◌+◌, ◌-◌, ◌%◌, ◌^◌, ◌<◌, ◌≤◌, ◌≡◌, Bool, true, false, ◌&&◌, List, [], ◌++◌, leb, eqb, length, take, drop, None, Some}
 use Rattle.defs.specs.Choice.{when}
 use Rattle.defs.specs.Answer.{Told}
 use Rattle.defs.specs.Promises.{Exactly, Refuses}
 use Rattle.defs.specs.declared.stream.StreamAnswer.{StreamAnswer}
 use Rattle.defs.specs.declared.stream.StreamAnswer.TheVariants.{WouldBlock}
-use Rattle.defs.specs.declared.stream.ReadAnswer.TheVariants.{WouldBlock as ReadWouldBlock}
 use Rattle.defs.specs.declared.stream.StreamAnswers.{StreamAnswers}
-use Rattle.defs.specs.declared.stream.ReadAnswer.{ReadAnswer}
 use Rattle.packet.specs.Header.{decoded}
 use Rattle.packet.specs.Uapi.{op_request, op_shutdown, op_rw, op_credit_request}
 use Rattle.txbuf.specs.Record.{used_of}
@@ -16,7 +14,6 @@ use Rattle.txbuf.specs.Flush.{first_piece, second_piece}
 use Rattle.txbuf.specs.Means.{uses_second}
 use Rattle.csm.specs.Said.{DataFirst, Reads, op_due, tells_now, said_now}
 use Rattle.csm.specs.declared.state.ConnState.TheVariants.{PeerClosed}
-use Rattle.csm.specs.declared.timer.Timer.TheVariants.{Unset, At}
 use Rattle.rules.specs.Open.{Opening, ConnLeft, PeerInitSays, LocalInitSays}
 use Rattle.rules.specs.Look.{KillSays, EvSetLeft, EvSetSays}
 use Rattle.rules.specs.Receive.{RecvIn, RecvLeft, RecvSays}
@@ -47,8 +44,8 @@ pub record TimersArm : Type 0 where
   pub notify : (i : NotifyIn) (o : NotifyLeft) → NotifySays i o → o.conn.expiry ≡ i.conn.expiry
   pub recv : (i : RecvIn) (o : RecvLeft) → RecvSays i o → (Refuses o.answer → ⊥)
       → o.conn.expiry
-      ≡ when (eqb (op_due (turn_of i)) op_request) (At (i.clock + i.conn.settings.request_timeout))
-      (when (eqb (op_due (turn_of i)) op_shutdown) (At (i.clock + i.conn.settings.shutdown_timeout)) i.conn.expiry)
+      ≡ when (eqb (op_due (turn_of i)) op_request) (Some (i.clock + i.conn.settings.request_timeout))
+      (when (eqb (op_due (turn_of i)) op_shutdown) (Some (i.clock + i.conn.settings.shutdown_timeout)) i.conn.expiry)
   pub kill : (c : VsockConnection) (o : ConnLeft) → KillSays c o → o.conn.expiry ≡ c.expiry
 
 -- 2026-08: a SHUTDOWN by which both flags become set that were not both set before, while the ring isn't empty and no timer runs
@@ -57,14 +54,14 @@ pub record ArmsNow (i : SendIn) (o : SendLeft) : Type 0 where
   pub before : i.conn.state ≡ PeerClosed true true → ⊥
   pub after : o.conn.state ≡ PeerClosed true true
   pub held : 1 ≤ used_of i.conn.tx_buf
-  pub idle : i.conn.expiry ≡ Unset
+  pub idle : i.conn.expiry ≡ None
 
 -- a packet that is done leaves a timer that was not there before exactly then, and its time is now plus the shutdown timeout; a SHUTDOWN of the guest's
 -- moves no timer that runs, in any state and at any clock
 pub record ShutdownArms : Type 0 where
   pub arms : (i : SendIn) (o : SendLeft) (time : ℕ) → SendSays i o → o.answer.number ≡ 0
-      → Exactly ((i.conn.expiry ≡ At time → ⊥) × (o.conn.expiry ≡ At time)) (ArmsNow i o × (time ≡ i.clock + i.conn.settings.shutdown_timeout))
-  pub runs : (i : SendIn) (o : SendLeft) (time : ℕ) → SendSays i o → (decoded i.hdr).op ≡ op_shutdown → i.conn.expiry ≡ At time → o.conn.expiry ≡ At time
+      → Exactly ((i.conn.expiry ≡ Some time → ⊥) × (o.conn.expiry ≡ Some time)) (ArmsNow i o × (time ≡ i.clock + i.conn.settings.shutdown_timeout))
+  pub runs : (i : SendIn) (o : SendLeft) (time : ℕ) → SendSays i o → (decoded i.hdr).op ≡ op_shutdown → i.conn.expiry ≡ Some time → o.conn.expiry ≡ Some time
 
 -- 01: last-told becomes fwd_cnt on credit request, data, shutdown, read failure and credit update, which only a turn to speak says (`tellsNow` of `csm`)
 pub record LastToldMoves : Type 0 where
@@ -80,7 +77,7 @@ pub record LastToldMoves : Type 0 where
 abbrev pub sent_with : SendIn → StreamAnswers → SendIn
 sent_with i a = record { conn = i.conn; store = i.store; hdr = i.hdr; present = i.present; buf = i.buf; clock = i.clock; answers = a; out = i.out }
 
-abbrev pub read_with : RecvIn → ReadAnswer → List ℕ → RecvIn
+abbrev pub read_with : RecvIn → StreamAnswer → List ℕ → RecvIn
 read_with i a bytes = record { conn = i.conn; hdr = i.hdr; present = i.present; buf = i.buf; clock = i.clock; answer = a; read = bytes }
 
 abbrev pub notified_with : NotifyIn → StreamAnswers → NotifyIn
@@ -104,7 +101,7 @@ recv_given i = record { conn = i.conn; hdr = i.hdr; present = i.present; buf = i
 pub record UnreachedIsIgnored : Type 0 where
   pub send_door : (i : SendIn) (a : StreamAnswers) (t : Told) (o other : SendLeft) → SendSays i o → SendSays (sent_with i a) other
       → SendDoorSays (send_given i) t → (t.number ≡ 0 → ⊥) → o ≡ other
-  pub recv_door : (i : RecvIn) (a : ReadAnswer) (bytes : List ℕ) (t : Told) (o other : RecvLeft) → RecvSays i o → RecvSays (read_with i a bytes) other
+  pub recv_door : (i : RecvIn) (a : StreamAnswer) (bytes : List ℕ) (t : Told) (o other : RecvLeft) → RecvSays i o → RecvSays (read_with i a bytes) other
       → RecvDoorSays (recv_given i) t → (t.number ≡ 0 → ⊥) → o ≡ other
   pub notify_door : (i : NotifyIn) (a : StreamAnswers) (t : Told) (o other : NotifyLeft) → NotifySays i o → NotifySays (notified_with i a) other
       → NotifyDoorSays i.conn i.store t → (t.number ≡ 0 → ⊥) → o ≡ other
@@ -112,7 +109,7 @@ pub record UnreachedIsIgnored : Type 0 where
       → RawDoorSays i.conn i.buf t → (t.number ≡ 0 → ⊥) → o ≡ other
   pub send : (i : SendIn) (a : StreamAnswers) (o other : SendLeft) → SendSays i o → SendSays (sent_with i a) other → (Writes i → ⊥) → o ≡ other
   pub send_second : (i : SendIn) (y : StreamAnswer) (o other : SendLeft) → SendSays i o → SendSays (sent_with i (with_second i.answers y)) other → o ≡ other
-  pub recv : (i : RecvIn) (a : ReadAnswer) (bytes : List ℕ) (o other : RecvLeft) → RecvSays i o → RecvSays (read_with i a bytes) other
+  pub recv : (i : RecvIn) (a : StreamAnswer) (bytes : List ℕ) (o other : RecvLeft) → RecvSays i o → RecvSays (read_with i a bytes) other
       → (Reads (turn_of i) → ⊥) → o ≡ other
   pub notify : (i : NotifyIn) (a : StreamAnswers) (o other : NotifyLeft) → NotifySays i o → NotifySays (notified_with i a) other → (Flushes i → ⊥) → o ≡ other
   pub notify_second : (i : NotifyIn) (y : StreamAnswer) (o other : NotifyLeft) → NotifySays i o → NotifySays (notified_with i (with_second i.answers y)) other
@@ -171,7 +168,7 @@ abbrev pub as_sent : SendGiven → SendIn
 as_sent g = record { conn = g.conn; store = g.store; hdr = g.hdr; present = g.present; buf = g.buf; clock = g.clock; answers = record { first = WouldBlock; second = WouldBlock }; out = [] }
 
 abbrev pub as_read : RecvGiven → RecvIn
-as_read g = record { conn = g.conn; hdr = g.hdr; present = g.present; buf = g.buf; clock = g.clock; answer = ReadWouldBlock; read = [] }
+as_read g = record { conn = g.conn; hdr = g.hdr; present = g.present; buf = g.buf; clock = g.clock; answer = WouldBlock; read = [] }
 
 pub record OffersMean : Type 0 where
   pub writes : (g : SendGiven) (t : Told) (r : Bool) → SendDoorSays g t → SendWritesSays g r

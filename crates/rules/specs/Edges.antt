@@ -1,12 +1,11 @@
 -- The readings of 01 that a connection decides (R = 16, T = 4, timeouts 2,000): a to i, k as 2026-08 has it and l as 2026-07 has it; and R's limit, as 2026-10 has it. Assumes nothing.
-use Rattle.std.specs.Prelude.{ℕ, Bool, true, false, List, [], ◌∷◌, ◌++◌, map, length, take, replicate}
-use Rattle.defs.specs.Answer.{Told, told}
+use Rattle.std.specs.Prelude.{ℕ, Bool, true, false, List, [], ◌∷◌, ◌++◌, map, length, take, replicate, None, Some, Err}
+use Rattle.defs.specs.Answer.{Told, told, done}
 use Rattle.defs.specs.Look.{FlagLeft}
 use Rattle.defs.specs.Reading.{Reading, ◌reads◌}
-use Rattle.defs.specs.declared.answer.Answer.TheVariants.{Done, BadRecord}
+use Rattle.defs.specs.declared.answer.Refusal.TheVariants.{BadRecord}
 use Rattle.defs.specs.declared.stream.StreamAnswer.TheVariants.{Count, WouldBlock, Failed}
-use Rattle.defs.specs.declared.stream.ReadAnswer.{ReadAnswer}
-use Rattle.defs.specs.declared.stream.ReadAnswer.TheVariants.{Count as ReadCount, WouldBlock as ReadWouldBlock}
+use Rattle.defs.specs.declared.stream.StreamAnswer.{StreamAnswer}
 use Rattle.packet.specs.Uapi.{op_response, op_rst, op_shutdown, op_rw, op_credit_request, type_stream}
 use Rattle.packet.specs.Header.{decoded, encoded}
 use Rattle.packet.specs.Edges.{bytes_a}
@@ -15,8 +14,7 @@ use Rattle.txbuf.specs.Edges.{places, untaken, ten, eleven}
 use Rattle.txbuf.specs.declared.record.TxBuf.{TxBuf}
 use Rattle.csm.specs.Pending.{none}
 use Rattle.csm.specs.declared.pending.PendingRxSet.{PendingRxSet}
-use Rattle.csm.specs.declared.timer.Timer.{Timer}
-use Rattle.csm.specs.declared.timer.Timer.TheVariants.{Unset, At}
+use Rattle.csm.specs.Timer.{Timer}
 use Rattle.csm.specs.declared.state.ConnState.TheVariants.{Established, LocalClosed, Killed}
 use Rattle.rules.specs.Record.{credit_of, with_state}
 use Rattle.rules.specs.Open.{fresh_of, zero_conn, peer_init_of, local_init_of, Opening, ConnLeft}
@@ -47,11 +45,11 @@ abbrev ring : ℕ → TxBuf
 ring head = record { size = 16; head = head; tail = 0 }
 
 -- a turn to speak with a read answer of no bytes
-abbrev turn : VsockConnection → Bool → ReadAnswer → RecvLeft
+abbrev turn : VsockConnection → Bool → StreamAnswer → RecvLeft
 turn c present a = recv_of (record { conn = c; hdr = replicate 44 9; present = present; buf = []; clock = 0; answer = a; read = [] })
 
 abbrev after_a : RecvLeft
-after_a = turn (peer_init_of (opening 100)).conn false ReadWouldBlock
+after_a = turn (peer_init_of (opening 100)).conn false WouldBlock
 
 -- a: the first receive, whole; the connection is established
 unfoldable pub reading_a : List Reading
@@ -122,8 +120,8 @@ reader alloc = fresh_of (opening alloc) Established to_read
 -- g: credit 1, buffer of 0 bytes, read answer 0: LocalClosed. Credit 0, no buffer: CREDIT_REQUEST
 unfoldable pub reading_g : List Reading
 reading_g =
-    ((turn (reader 1) true (ReadCount 0)).conn.state reads LocalClosed)
-    ∷ ((decoded (turn (reader 0) false ReadWouldBlock).hdr).op reads op_credit_request)
+    ((turn (reader 1) true (Count 0)).conn.state reads LocalClosed)
+    ∷ ((decoded (turn (reader 0) false WouldBlock).hdr).op reads op_credit_request)
     ∷ []
 
 -- established, with a ring, the numbers of credit and a timer
@@ -146,7 +144,7 @@ standing tx alloc sent forwarded timer = record {
 }
 
 abbrev before_f : VsockConnection
-before_f = standing (record { size = 16; head = 20; tail = 12 }) 100 0 0 Unset
+before_f = standing (record { size = 16; head = 20; tail = 12 }) 100 0 0 None
 
 abbrev after_f : NotifyLeft
 after_f = notify_of (record {
@@ -171,23 +169,23 @@ reading_f =
 
 -- alloc 10, sent 14, peer fwd 2
 abbrev shrunk : VsockConnection
-shrunk = standing (ring 0) 10 14 2 Unset
+shrunk = standing (ring 0) 10 14 2 None
 
 -- h: no credit; data that is to be read becomes a CREDIT_REQUEST; and none is polled for
 unfoldable pub reading_h : List Reading
 reading_h =
     (credit_of shrunk reads 0)
-    ∷ ((decoded (turn (with_state shrunk Established Unset to_read) true (ReadCount 0)).hdr).op reads op_credit_request)
-    ∷ (ev_set_of shrunk true reads record { answer = told Done; readable = false; writable = false })
+    ∷ ((decoded (turn (with_state shrunk Established None to_read) true (Count 0)).hdr).op reads op_credit_request)
+    ∷ (ev_set_of shrunk true reads record { answer = told done; readable = false; writable = false })
     ∷ []
 
 -- i: a timer of 500 has expired at 500, and not before
 abbrev expired : ℕ → FlagLeft
-expired clock = has_expired_of (record { conn = standing (ring 0) 100 0 0 (At 500); clock = clock })
+expired clock = has_expired_of (record { conn = standing (ring 0) 100 0 0 (Some 500); clock = clock })
 
 unfoldable pub reading_i : List Reading
 reading_i =
-    (expired 499 reads record { answer = told Done; holds = false }) ∷ (expired 500 reads record { answer = told Done; holds = true }) ∷ []
+    (expired 499 reads record { answer = told done; holds = false }) ∷ (expired 500 reads record { answer = told done; holds = true }) ∷ []
 
 -- one byte is held
 abbrev holding : VsockConnection → VsockConnection
@@ -206,25 +204,25 @@ whole = shuts half 2 1500
 
 -- opened by the host: the RESPONSE comes before the REQUEST is said, at 0, and so the request's timer runs in Established
 abbrev asking : VsockConnection
-asking = (turn (comes (local_init_of (opening 0)).conn places 0 (packet op_response 0 0) [] 0).conn false ReadWouldBlock).conn
+asking = (turn (comes (local_init_of (opening 0)).conn places 0 (packet op_response 0 0) [] 0).conn false WouldBlock).conn
 
 -- k: SHUTDOWN 3 at 1,000: timer 3,000. SHUTDOWN 1, then 2 at 1,500: none, then 3,500, also after a third. One that runs stays, also where it has expired
 unfoldable pub reading_k : List Reading
 reading_k =
-    ((shuts (holding after_a.conn) 3 1000).expiry reads At 3000)
-    ∷ (half.expiry reads Unset)
-    ∷ (whole.expiry reads At 3500)
-    ∷ ((shuts whole 3 1800).expiry reads At 3500)
-    ∷ ((shuts (holding asking) 3 1000).expiry reads At 2000)
-    ∷ ((shuts (holding asking) 3 2500).expiry reads At 2000)
+    ((shuts (holding after_a.conn) 3 1000).expiry reads Some 3000)
+    ∷ (half.expiry reads None)
+    ∷ (whole.expiry reads Some 3500)
+    ∷ ((shuts whole 3 1800).expiry reads Some 3500)
+    ∷ ((shuts (holding asking) 3 1000).expiry reads Some 2000)
+    ∷ ((shuts (holding asking) 3 2500).expiry reads Some 2000)
     ∷ []
 
 -- killed in PeerInit, then a turn to speak, then another
 abbrev reset : RecvLeft
-reset = turn (kill_of (peer_init_of (opening 100)).conn).conn false ReadWouldBlock
+reset = turn (kill_of (peer_init_of (opening 100)).conn).conn false WouldBlock
 
 abbrev silent : RecvLeft
-silent = turn reset.conn false ReadWouldBlock
+silent = turn reset.conn false WouldBlock
 
 -- l: RST; then answer 7, and Killed
 unfoldable pub reading_l : List Reading
@@ -240,10 +238,10 @@ rings lefts = map (λ (left : ConnLeft). (left.answer, left.conn.tx_buf)) lefts
 
 -- both are done, with an empty ring of that size; both are refused, with the all-zero record
 abbrev opened : ℕ → List (Told × TxBuf)
-opened size = replicate 2 (told Done, record { size = size; head = 0; tail = 0 })
+opened size = replicate 2 (told done, record { size = size; head = 0; tail = 0 })
 
 abbrev refused : List ConnLeft
-refused = replicate 2 (record { answer = told BadRecord; conn = zero_conn })
+refused = replicate 2 (record { answer = told (Err BadRecord); conn = zero_conn })
 
 -- R, as 2026-10 has it: over the 65,536 of before, up to 1,048,576; then one less, one more, and the next power of two
 unfoldable pub reading_r : List Reading

@@ -1,6 +1,6 @@
 -- What a packet, an event, an opening and a raw send leave, whole, said a second time: each field of the record and every lent byte, in 01's words, apart
 -- from the rules that the code follows. Assumes nothing.
-use Rattle.std.specs.Prelude.{ℕ, ◌+◌, ◌-◌, ◌/◌, ◌%◌, ◌≡◌, Bool, true, false, not, ◌&&◌, ◌||◌, List, [], ◌++◌, leb, eqb, take, drop}
+use Rattle.std.specs.Prelude.{ℕ, ◌+◌, ◌-◌, ◌/◌, ◌%◌, ◌≡◌, Bool, true, false, not, ◌&&◌, ◌||◌, List, [], ◌++◌, leb, eqb, take, drop, None, Some}
 use Rattle.defs.specs.Choice.{when}
 use Rattle.defs.specs.Promises.{Refuses}
 use Rattle.defs.specs.Stream.{counted, failed}
@@ -15,8 +15,7 @@ use Rattle.csm.specs.Means.{shut_both, answers_request}
 use Rattle.csm.specs.Pending.{none}
 use Rattle.csm.specs.declared.state.ConnState.{ConnState}
 use Rattle.csm.specs.declared.state.ConnState.TheVariants.{LocalInit, PeerInit, Established, LocalClosed, PeerClosed, Killed}
-use Rattle.csm.specs.declared.timer.Timer.{Timer}
-use Rattle.csm.specs.declared.timer.Timer.TheVariants.{Unset, At}
+use Rattle.csm.specs.Timer.{Timer}
 use Rattle.rules.specs.Open.{Opening, ConnLeft, PeerInitSays, LocalInitSays}
 use Rattle.rules.specs.Raw.{RawIn, RawLeft, RawSays}
 use Rattle.rules.specs.Send.{SendIn, SendLeft, SendSays}
@@ -169,7 +168,7 @@ pub record Opened (o : Opening) (c : VsockConnection) : Type 0 where
   pub ports : (c.local_port ≡ o.local_port) × (c.peer_port ≡ o.peer_port)
   pub ring : (c.tx_buf.size ≡ o.size) × (c.tx_buf.head ≡ 0) × (c.tx_buf.tail ≡ 0)
   pub counts : (c.fwd_cnt ≡ 0) × (c.rx_cnt ≡ 0) × (c.peer_fwd_cnt ≡ 0) × (c.last_fwd_cnt_to_peer ≡ 0)
-  pub expiry : c.expiry ≡ Unset
+  pub expiry : c.expiry ≡ None
   pub quiet : (c.pending_rx.rst ≡ false) × (c.pending_rx.rw ≡ false) × (c.pending_rx.credit_update ≡ false)
 
 -- by the guest: PeerInit, Response pending, the given space. By the host: LocalInit, Request pending, space 0
@@ -187,7 +186,7 @@ pub record AllZero (c : VsockConnection) : Type 0 where
   pub addresses : (c.local_cid ≡ 0) × (c.peer_cid ≡ 0) × (c.local_port ≡ 0) × (c.peer_port ≡ 0)
   pub ring : (c.tx_buf.size ≡ 0) × (c.tx_buf.head ≡ 0) × (c.tx_buf.tail ≡ 0)
   pub counts : (c.fwd_cnt ≡ 0) × (c.rx_cnt ≡ 0) × (c.peer_buf_alloc ≡ 0) × (c.peer_fwd_cnt ≡ 0) × (c.last_fwd_cnt_to_peer ≡ 0)
-  pub phase : (c.state ≡ LocalInit) × (c.expiry ≡ Unset) × (c.pending_rx ≡ none)
+  pub phase : (c.state ≡ LocalInit) × (c.expiry ≡ None) × (c.pending_rx ≡ none)
 
 pub record RefusedIsZero : Type 0 where
   pub peer : (o : Opening) (left : ConnLeft) → PeerInitSays o left → Refuses left.answer → AllZero left.conn
@@ -222,7 +221,7 @@ send_accepted i o = when (eqb o.answer.number 0) (accepted_now i) []
 
 -- RESPONSE in LocalInit clears the timer
 abbrev pub cleared : ConnState → Timer → Timer
-cleared LocalInit t = Unset
+cleared LocalInit t = None
 cleared PeerInit t = t
 cleared Established t = t
 cleared LocalClosed t = t
@@ -235,8 +234,8 @@ lingers_now i = (shut_both (closed_now i) && not (shut_both i.conn.state)) && le
 
 -- a timer that runs stays; where none runs it is set to this time
 abbrev pub unless_running : Timer → ℕ → Timer
-unless_running Unset time = At time
-unless_running (At running) time = At running
+unless_running None time = Some time
+unless_running (Some running) time = Some running
 
 -- RESPONSE in LocalInit clears the timer; such a SHUTDOWN sets one that doesn't run to now plus the shutdown timeout; all else leaves it
 abbrev pub timer_now : SendIn → Timer

@@ -1,15 +1,12 @@
 -- The calls that look at a connection (01, timers; as the Rust), and `kill` (2026-07). Each answers 1 for a record that is not sound, those with a
 -- clock 3 for one over 2^62, and then gives a fixed value. Assumes nothing.
-use Rattle.std.specs.Prelude.{ℕ, ◌≡◌, Bool, false, not, ◌&&◌}
+use Rattle.std.specs.Prelude.{ℕ, ◌≡◌, Bool, false, not, ◌&&◌, None}
 use Rattle.defs.specs.Ladder.{record_answer, clock_answer}
-use Rattle.defs.specs.Answer.{Told, told, when_done}
+use Rattle.defs.specs.Answer.{Told, told, when_done, Answer}
 use Rattle.defs.specs.Look.{FlagLeft, flag_of}
-use Rattle.defs.specs.declared.answer.Answer.{Answer}
 use Rattle.csm.specs.State.{polls}
 use Rattle.csm.specs.Pending.{is_pending}
-use Rattle.csm.specs.Timer.{is_after, is_due}
-use Rattle.csm.specs.declared.timer.Timer.{Timer}
-use Rattle.csm.specs.declared.timer.Timer.TheVariants.{Unset}
+use Rattle.csm.specs.Timer.{is_after, is_due, Timer}
 use Rattle.csm.specs.declared.state.ConnState.{ConnState}
 use Rattle.csm.specs.declared.state.ConnState.TheVariants.{LocalInit}
 use Rattle.rules.specs.Record.{sound_conn, quiet, killed_of, no_credit}
@@ -57,7 +54,7 @@ pub record ExpiryLeft : Type 0 where
 
 -- `expiry`: the timer as it stands
 unfoldable pub expiry_of : VsockConnection → ExpiryLeft
-expiry_of c = record { answer = told (look_answer c); expiry = when_done (look_answer c) c.expiry Unset }
+expiry_of c = record { answer = told (look_answer c); expiry = when_done (look_answer c) c.expiry None }
 
 abbrev pub ExpirySays : VsockConnection → ExpiryLeft → Type 0
 ExpirySays c left = left ≡ expiry_of c

@@ -1,11 +1,9 @@
 -- `notify` (01, section of that name). Assumes nothing.
 use Rattle.std.specs.Prelude.{ℕ, ◌≡◌, Bool, true, false, not, ◌&&◌, List, length, eqb}
 use Rattle.defs.specs.Choice.{when}
-use Rattle.defs.specs.Answer.{Told, told, when_done}
+use Rattle.defs.specs.Answer.{Told, told, when_done, Answer, done}
 use Rattle.defs.specs.Ladder.{lowest_of, record_answer}
 use Rattle.defs.specs.Stream.{failed}
-use Rattle.defs.specs.declared.answer.Answer.{Answer}
-use Rattle.defs.specs.declared.answer.Answer.TheVariants.{Done}
 use Rattle.defs.specs.declared.stream.StreamAnswers.{StreamAnswers}
 use Rattle.txbuf.specs.Flush.{FlushIn, FlushLeft, flush_answer, flush_of}
 use Rattle.txbuf.specs.declared.record.TxBuf.{TxBuf}
@@ -21,7 +19,7 @@ seen_of c readable = with_state c c.state c.expiry (marked c.pending_rx false re
 
 -- 01's table, number 10: only of direct calls; here the flush's answer is absorbed
 unfoldable pub absorbed : Answer → Answer
-absorbed a = when (eqb (told a).number 10) Done a
+absorbed a = when (eqb (told a).number 10) done a
 
 -- then Rst if PeerClosed(true, true) and empty, else credit update by the threshold rule
 unfoldable pub settled_of : VsockConnection → Bool → VsockConnection
@@ -68,12 +66,12 @@ notify_door c storage = record_answer (sound_over c storage)
 
 -- then 5 and 6 where a flush is due
 unfoldable pub notify_answer : NotifyIn → Answer
-notify_answer i = lowest_of (notify_door i.conn (length i.store)) (when (due i) (absorbed (flush_answer (flush_in i))) Done)
+notify_answer i = lowest_of (notify_door i.conn (length i.store)) (when (due i) (absorbed (flush_answer (flush_in i))) done)
 
 -- the in-event is seen; a flush that is due moves ring, count and bytes
 unfoldable pub notify_done : NotifyIn → NotifyLeft
 notify_done i = record {
-  answer = told Done;
+  answer = told done;
   conn = when (due i) (drained_of (seen_of i.conn i.readable) (flushed i).ring (flushed i).count (quiet (flushed i).ring) (failed i.answers.first)) (seen_of i.conn i.readable);
   out = when (due i) (flushed i).out i.out;
 }

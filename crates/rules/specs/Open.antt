@@ -1,12 +1,10 @@
 -- The two openings of a connection (01, "The numbers of a connection"). Assumes nothing.
-use Rattle.std.specs.Prelude.{ℕ, ◌≡◌, true, false, ◌&&◌}
+use Rattle.std.specs.Prelude.{ℕ, ◌≡◌, true, false, ◌&&◌, None}
 use Rattle.defs.specs.Ladder.{record_answer}
-use Rattle.defs.specs.Answer.{Told, told, when_done}
+use Rattle.defs.specs.Answer.{Told, told, when_done, Answer}
 use Rattle.defs.specs.Limits.{is_ring_size}
-use Rattle.defs.specs.declared.answer.Answer.{Answer}
 use Rattle.csm.specs.Pending.{none}
 use Rattle.csm.specs.declared.pending.PendingRxSet.{PendingRxSet}
-use Rattle.csm.specs.declared.timer.Timer.TheVariants.{Unset}
 use Rattle.csm.specs.declared.state.ConnState.{ConnState}
 use Rattle.csm.specs.declared.state.ConnState.TheVariants.{LocalInit, PeerInit}
 use Rattle.rules.specs.Record.{ok_settings}
@@ -44,7 +42,7 @@ fresh_of o state pending = record {
   rx_cnt = 0;
   last_fwd_cnt_to_peer = 0;
   pending_rx = pending;
-  expiry = Unset;
+  expiry = None;
 }
 
 -- the all-zero record (LocalInit, no timer)

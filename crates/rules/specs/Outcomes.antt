@@ -1,6 +1,6 @@
 -- What a call does, said a second time: over what it was given and what it left, in 01's words, apart from the definitions that the code follows, so
 -- that a wrong behaviour put into both is refused here. Assumes nothing.
-use Rattle.std.specs.Prelude.{ℕ, ◌+◌, ◌-◌, ◌^◌, ◌≤◌, ◌<◌, ◌≡◌, Bool, true, false, not, ◌&&◌, ◌||◌, List, [], ◌++◌, ltb, leb, eqb, take, drop}
+use Rattle.std.specs.Prelude.{ℕ, ◌+◌, ◌-◌, ◌^◌, ◌≤◌, ◌<◌, ◌≡◌, Bool, true, false, not, ◌&&◌, ◌||◌, List, [], ◌++◌, ltb, leb, eqb, take, drop, None, Some}
 use Rattle.defs.specs.Choice.{when}
 use Rattle.defs.specs.Credit.{peer_avail_credit}
 use Rattle.defs.specs.Look.{FlagLeft}
@@ -15,7 +15,6 @@ use Rattle.csm.specs.Means.{takes_data, waits_for_data, shut_both}
 use Rattle.csm.specs.Pending.{none}
 use Rattle.csm.specs.Said.{Turn, Said, said_now, rw_gone}
 use Rattle.csm.specs.declared.state.ConnState.TheVariants.{LocalInit, Killed}
-use Rattle.csm.specs.declared.timer.Timer.TheVariants.{Unset, At}
 use Rattle.rules.specs.Open.{ConnLeft}
 use Rattle.rules.specs.Look.{PendingSays, Timed, WillExpireSays, HasExpiredSays, ExpiryLeft, ExpirySays, StateLeft, StateSays, EvSetLeft, EvSetSays, KillSays}
 use Rattle.rules.specs.Raw.{RawIn, RawLeft, RawSays}
@@ -101,8 +100,8 @@ turn_of i = record {
   present = i.present;
   answer = i.answer;
   expiry = i.conn.expiry;
-  wait = At (i.clock + i.conn.settings.request_timeout);
-  linger = At (i.clock + i.conn.settings.shutdown_timeout);
+  wait = Some (i.clock + i.conn.settings.request_timeout);
+  linger = Some (i.clock + i.conn.settings.shutdown_timeout);
 }
 
 -- own addresses, type 1, R and fwd_cnt, and what is said
@@ -207,9 +206,9 @@ EveryPollPolls = (c : VsockConnection) (o : EvSetLeft) → EvSetSays c o → o.a
 -- 01: `will_expire` is time > now, `has_expired` time <= now, of a timer that is set
 pub record ExpiryMeans : Type 0 where
   pub will : (i : Timed) (o : FlagLeft) → WillExpireSays i o → o.answer.number ≡ 0
-      → Exactly (o.holds ≡ true) ((time : ℕ) × (i.conn.expiry ≡ At time) × (i.clock < time))
+      → Exactly (o.holds ≡ true) ((time : ℕ) × (i.conn.expiry ≡ Some time) × (i.clock < time))
   pub has : (i : Timed) (o : FlagLeft) → HasExpiredSays i o → o.answer.number ≡ 0
-      → Exactly (o.holds ≡ true) ((time : ℕ) × (i.conn.expiry ≡ At time) × (time ≤ i.clock))
+      → Exactly (o.holds ≡ true) ((time : ℕ) × (i.conn.expiry ≡ Some time) × (time ≤ i.clock))
 
 -- the other looks tell what stands in the record: whether any indication is pending, the state, the timer
 pub record LooksTell : Type 0 where
@@ -219,6 +218,6 @@ pub record LooksTell : Type 0 where
 
 -- where it is not done a look tells nothing: no timer, LocalInit, no event (those that tell a yes or no: `RefusedTellsNothing` of `defs`)
 pub record RefusedTellsNothing : Type 0 where
-  pub expiry : (c : VsockConnection) (o : ExpiryLeft) → ExpirySays c o → (o.answer.number ≡ 0 → ⊥) → o.expiry ≡ Unset
+  pub expiry : (c : VsockConnection) (o : ExpiryLeft) → ExpirySays c o → (o.answer.number ≡ 0 → ⊥) → o.expiry ≡ None
   pub state : (c : VsockConnection) (o : StateLeft) → StateSays c o → (o.answer.number ≡ 0 → ⊥) → o.state ≡ LocalInit
   pub polled : (c : VsockConnection) (o : EvSetLeft) → EvSetSays c o → (o.answer.number ≡ 0 → ⊥) → (o.readable ≡ false) × (o.writable ≡ false)

@@ -1,11 +1,9 @@
 -- `send_bytes_raw`: one write, no account (01, answers 4, 5, 6, 10). Assumes nothing.
 use Rattle.std.specs.Prelude.{ℕ, ◌≡◌, false, not, List, ◌++◌, length, take, drop, ltb}
-use Rattle.defs.specs.Answer.{Told, told, when_done}
+use Rattle.defs.specs.Answer.{Told, told, when_done, Answer, done}
 use Rattle.defs.specs.Limits.{is_packet_length}
 use Rattle.defs.specs.Stream.{counted, stopped_by}
 use Rattle.defs.specs.Ladder.{door_of, late_of, lowest_of}
-use Rattle.defs.specs.declared.answer.Answer.{Answer}
-use Rattle.defs.specs.declared.answer.Answer.TheVariants.{Done}
 use Rattle.defs.specs.declared.stream.StreamAnswers.{StreamAnswers}
 use Rattle.rules.specs.Record.{sound_conn}
 use Rattle.rules.specs.declared.record.VsockConnection.{VsockConnection}
@@ -39,7 +37,7 @@ raw_answer i =
 
 -- what the stream took stands at the front of the outgoing buffer
 unfoldable pub raw_done : RawIn → RawLeft
-raw_done i = record { answer = told Done; count = raw_count i; out = take (raw_count i) i.buf ++ drop (raw_count i) i.out }
+raw_done i = record { answer = told done; count = raw_count i; out = take (raw_count i) i.buf ++ drop (raw_count i) i.out }
 
 -- refused, blocked or failed: nothing changed
 unfoldable pub raw_kept : RawIn → RawLeft

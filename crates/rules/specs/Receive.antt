@@ -1,22 +1,20 @@
 -- `recv_pkt` (01, section of that name): the step of the state machine, and what its row leaves of record, header and buffer. Assumes nothing.
 use Rattle.std.specs.Prelude.{ℕ, ◌≤◌, min, ◌≡◌, Bool, false, not, ◌&&◌, ◌||◌, List, ◌++◌, length, take, drop, ltb}
 use Rattle.defs.specs.Choice.{when}
-use Rattle.defs.specs.Answer.{Told, told, when_done}
+use Rattle.defs.specs.Answer.{Told, told, when_done, Answer}
 use Rattle.defs.specs.Limits.{max_packet, max_clock, max_timeout, is_header_length, is_clock, is_packet_length}
-use Rattle.defs.specs.Stream.{read_counted}
+use Rattle.defs.specs.Stream.{counted}
 use Rattle.defs.specs.Ladder.{door_of, late_of, lowest_of}
 use Rattle.defs.specs.Wrapping.{wadd}
-use Rattle.defs.specs.declared.answer.Answer.{Answer}
-use Rattle.defs.specs.declared.stream.ReadAnswer.{ReadAnswer}
+use Rattle.defs.specs.declared.stream.StreamAnswer.{StreamAnswer}
 use Rattle.packet.specs.Uapi.{type_stream}
 use Rattle.packet.specs.Header.{encoded}
 use Rattle.packet.specs.declared.hdr.VsockPacketHdr.{VsockPacketHdr}
 use Rattle.csm.specs.Pending.{left_of}
-use Rattle.csm.specs.Timer.{later}
+use Rattle.csm.specs.Timer.{later, Timer}
 use Rattle.csm.specs.Turn.{turn_step, turn_reads}
 use Rattle.csm.specs.Row.{row_of, afterwards, armed}
 use Rattle.csm.specs.declared.pending.PendingRxSet.{PendingRxSet}
-use Rattle.csm.specs.declared.timer.Timer.{Timer}
 use Rattle.csm.specs.declared.state.ConnState.{ConnState}
 use Rattle.csm.specs.declared.turn.RxStep.{RxStep}
 use Rattle.csm.specs.declared.row.Row.{Row}
@@ -24,7 +22,7 @@ use Rattle.rules.specs.Record.{sound_conn, credit_of, no_credit, peer_of, onward
 use Rattle.rules.specs.declared.record.VsockConnection.{VsockConnection}
 
 -- what is said at this turn
-abbrev pub next_step : VsockConnection → Bool → ReadAnswer → RxStep
+abbrev pub next_step : VsockConnection → Bool → StreamAnswer → RxStep
 next_step c present a = turn_step c.pending_rx c.state (no_credit c) present a
 
 -- ---- what a row leaves
@@ -72,7 +70,7 @@ pub record RecvIn : Type 0 where
   pub present : Bool
   pub buf : List ℕ
   pub clock : ℕ
-  pub answer : ReadAnswer
+  pub answer : StreamAnswer
   pub read : List ℕ
 
 pub record RecvLeft : Type 0 where
@@ -95,10 +93,10 @@ abbrev pub asked_of : VsockConnection → ℕ → ℕ
 asked_of c buf = min buf (credit_of c)
 
 -- then 5: a count over what was asked, or over the bytes supplied
-unfoldable pub recv_refusal : VsockConnection → ℕ → Bool → ℕ → ℕ → ReadAnswer → ℕ → Answer
+unfoldable pub recv_refusal : VsockConnection → ℕ → Bool → ℕ → ℕ → StreamAnswer → ℕ → Answer
 recv_refusal c hdr present buf clock a read =
     lowest_of (recv_door c hdr present buf clock)
-    (late_of (reads_of c present && (ltb (asked_of c buf) (read_counted a) || ltb read (read_counted a))) false)
+    (late_of (reads_of c present && (ltb (asked_of c buf) (counted a) || ltb read (counted a))) false)
 
 -- 1 to 5 of this call
 abbrev pub refusal_of : RecvIn → Answer

@@ -6,7 +6,7 @@ use Rattle.txbuf.specs.Record.{is_empty, sound_record, sound_of}
 use Rattle.txbuf.specs.declared.record.TxBuf.{TxBuf}
 use Rattle.csm.specs.Pending.{reset_only}
 use Rattle.csm.specs.declared.pending.PendingRxSet.{PendingRxSet}
-use Rattle.csm.specs.declared.timer.Timer.{Timer}
+use Rattle.csm.specs.Timer.{Timer}
 use Rattle.csm.specs.declared.state.ConnState.{ConnState}
 use Rattle.csm.specs.declared.state.ConnState.TheVariants.{Killed}
 use Rattle.rules.specs.declared.record.Settings.{Settings}

@@ -1,6 +1,6 @@
 -- Runs of calls on one connection, from its opening: `runs` says what a run of any machine is, and here is the machine.
 -- Raw sends are left out: they keep no account. Assumes nothing.
-use Rattle.std.specs.Prelude.{ℕ, ◌≤◌, ◌≡◌, Bool, true, false, not, ◌&&◌, ◌||◌, List, [], ◌∷◌, take, leb, eqb}
+use Rattle.std.specs.Prelude.{ℕ, ◌≤◌, ◌≡◌, Bool, true, false, not, ◌&&◌, ◌||◌, List, [], ◌∷◌, take, leb, eqb, None}
 use Rattle.defs.specs.Choice.{when}
 use Rattle.defs.specs.Stream.{counted}
 use Rattle.defs.specs.Answer.{Told}
@@ -10,7 +10,6 @@ use Rattle.runs.specs.Runs.{Machine, gathered, Each, Account}
 use Rattle.txbuf.specs.Record.{used_of, held}
 use Rattle.csm.specs.State.{Grown}
 use Rattle.csm.specs.declared.state.ConnState.TheVariants.{PeerClosed, Killed}
-use Rattle.csm.specs.declared.timer.Timer.TheVariants.{Unset}
 use Rattle.rules.specs.Open.{Opening, ConnLeft, PeerInitSays, LocalInitSays}
 use Rattle.rules.specs.Look.{PendingSays, Timed, WillExpireSays, HasExpiredSays, ExpiryLeft, ExpirySays, StateLeft, StateSays, EvSetLeft, EvSetSays, KillSays}
 use Rattle.rules.specs.Receive.{RecvIn, RecvLeft, RecvSays}
@@ -211,7 +210,7 @@ KilledStays =
 abbrev pub ClosingIsTimed : Type 0
 ClosingIsTimed =
     (s : Start) (t : List Event) (c : VsockConnection) (store : List ℕ) → Run s t c store → c.state ≡ PeerClosed true true → 1 ≤ used_of c.tx_buf
-    → c.expiry ≡ Unset → ⊥
+    → c.expiry ≡ None → ⊥
 
 -- an out-event, not refused, whose first write, where one is due, takes at least one byte
 abbrev pub is_out : Event → Bool

@@ -1,14 +1,12 @@
 -- `send_pkt` (01, section of that name): what is planned in numbers, the refusals, the rules of the ops, and what is left. Assumes nothing.
-use Rattle.std.specs.Prelude.{ℕ, ◌+◌, ◌-◌, ◌≤◌, ◌≡◌, Bool, true, false, not, ◌&&◌, ◌||◌, List, [], ◌++◌, length, take, drop, ltb, eqb}
+use Rattle.std.specs.Prelude.{ℕ, ◌+◌, ◌-◌, ◌≤◌, ◌≡◌, Bool, true, false, not, ◌&&◌, ◌||◌, List, [], ◌++◌, length, take, drop, ltb, eqb, None}
 use Rattle.defs.specs.Choice.{when}
-use Rattle.defs.specs.Answer.{Told, told, when_done}
+use Rattle.defs.specs.Answer.{Told, told, when_done, Answer, done}
 use Rattle.defs.specs.Limits.{max_packet, max_clock, max_timeout, is_header_length, is_clock, is_packet_length}
 use Rattle.defs.specs.Stream.{counted, failed}
 use Rattle.defs.specs.Ladder.{door_of, late_of, lowest_of}
 use Rattle.defs.specs.Wrapping.{wadd}
 use Rattle.defs.specs.Credit.{peer_needs_credit_update}
-use Rattle.defs.specs.declared.answer.Answer.{Answer}
-use Rattle.defs.specs.declared.answer.Answer.TheVariants.{Done}
 use Rattle.defs.specs.declared.stream.StreamAnswer.{StreamAnswer}
 use Rattle.defs.specs.declared.stream.StreamAnswers.{StreamAnswers}
 use Rattle.packet.specs.Uapi.{op_response, op_shutdown, op_rw, op_credit_request}
@@ -20,7 +18,6 @@ use Rattle.txbuf.specs.declared.record.TxBuf.{TxBuf}
 use Rattle.csm.specs.State.{takes, asks, is_local_init, recv_off, send_off, shut_by, both_off}
 use Rattle.csm.specs.Pending.{marked}
 use Rattle.csm.specs.Timer.{later, shut_arms}
-use Rattle.csm.specs.declared.timer.Timer.TheVariants.{Unset}
 use Rattle.csm.specs.declared.state.ConnState.{ConnState}
 use Rattle.csm.specs.declared.state.ConnState.TheVariants.{Established}
 use Rattle.rules.specs.Record.{sound_over, quiet, peer_of, onward_of, sent_of, phase_of, regrouped, with_state, killed_of}
@@ -41,7 +38,7 @@ heard_of c pkt = regrouped c (record { alloc = pkt.buf_alloc; fwd = pkt.fwd_cnt 
 
 -- RESPONSE in LocalInit: Established, timer cleared
 unfoldable pub on_response : VsockConnection → VsockConnection
-on_response c = when (is_local_init c.state) (with_state c Established Unset c.pending_rx) c
+on_response c = when (is_local_init c.state) (with_state c Established None c.pending_rx) c
 
 -- the state after a SHUTDOWN with these flags
 abbrev pub shut_of : VsockConnection → ℕ → ConnState
@@ -124,12 +121,12 @@ Lingers c clock = (clock ≤ max_clock) × (c.settings.shutdown_timeout ≤ max_
 
 -- the ring and the storage, where the rest is kept
 unfoldable pub carried : Bool → TxBuf → List ℕ → List ℕ → PushLeft
-carried keeps ring store rest = when keeps (push_done (record { ring = ring; store = store; src = rest })) (record { answer = told Done; ring = ring; store = store })
+carried keeps ring store rest = when keeps (push_done (record { ring = ring; store = store; src = rest })) (record { answer = told done; ring = ring; store = store })
 
 pub record Carries (ring : TxBuf) (store payload : List ℕ) (written : ℕ) (keeps : Bool) (out : List ℕ) : Type 0 where
   pub part : written ≤ length payload
   pub room : written ≤ length out
-  pub pushes : keeps ≡ true → push_answer ring (length store) (length payload - written) ≡ Done
+  pub pushes : keeps ≡ true → push_answer ring (length store) (length payload - written) ≡ done
 
 -- ---- the call
 
@@ -183,7 +180,7 @@ send_carried i = carried ((send_plan i).goes && not (send_kills i)) i.conn.tx_bu
 -- peer credit, then the op's rule; what was taken stands at the front of the outgoing buffer
 unfoldable pub send_done : SendIn → SendLeft
 send_done i = record {
-  answer = told Done;
+  answer = told done;
   conn = rule_of (heard_of i.conn (pkt_of i)) (quiet i.conn.tx_buf) (pkt_of i) (send_plan i) (send_kills i) (send_carried i).ring i.clock;
   store = (send_carried i).store;
   out = take (send_plan i).written (payload i) ++ drop (send_plan i).written i.out;

@@ -1,9 +1,7 @@
 -- Runs at work: each theorem about runs, on calls that deliver, refuse, block, kill and shut down, so that no premise of it is empty. Assumes nothing.
-use Rattle.std.specs.Prelude.{ℕ, ◌≡◌, Bool, true, false, List, [], ◌∷◌, ◌++◌, map, take, drop, replicate}
+use Rattle.std.specs.Prelude.{ℕ, ◌≡◌, Bool, true, false, List, [], ◌∷◌, ◌++◌, map, take, drop, replicate, None, Some}
 use Rattle.defs.specs.declared.stream.StreamAnswer.{StreamAnswer}
 use Rattle.defs.specs.declared.stream.StreamAnswer.TheVariants.{Count, WouldBlock, Failed}
-use Rattle.defs.specs.declared.stream.ReadAnswer.{ReadAnswer}
-use Rattle.defs.specs.declared.stream.ReadAnswer.TheVariants.{Count as ReadCount, WouldBlock as ReadWouldBlock}
 use Rattle.packet.specs.Uapi.{op_response, op_rst, op_shutdown, op_rw}
 use Rattle.packet.specs.Header.{decoded}
 use Rattle.packet.specs.Edges.{bytes_a}
@@ -13,7 +11,6 @@ use Rattle.csm.specs.State.{Grown}
 use Rattle.csm.specs.Pending.{reset_only}
 use Rattle.csm.specs.declared.state.ConnState.{ConnState}
 use Rattle.csm.specs.declared.state.ConnState.TheVariants.{LocalInit, PeerInit, Established, LocalClosed, PeerClosed, Killed}
-use Rattle.csm.specs.declared.timer.Timer.TheVariants.{Unset, At}
 use Rattle.rules.specs.Edges.{packet}
 use Rattle.rules.specs.Record.{with_state}
 use Rattle.rules.specs.Open.{Opening, peer_init_of, local_init_of}
@@ -41,13 +38,13 @@ begins size =
     record { guest = true; given = given; left = peer_init_of given; store = replicate size 0 }
 
 -- a turn to speak, and one whose read answers so
-abbrev turned : VsockConnection → Bool → ReadAnswer → Event
+abbrev turned : VsockConnection → Bool → StreamAnswer → Event
 turned c present answer =
     let i : RecvIn = record { conn = c; hdr = replicate 44 9; present = present; buf = []; clock = 0; answer = answer; read = [] } in
     receives i (recv_of i)
 
 abbrev pub turn : VsockConnection → Event
-turn c = turned c false ReadWouldBlock
+turn c = turned c false WouldBlock
 
 -- a packet with this header and this data, to a stream that answers so
 abbrev comes : VsockConnection → List ℕ → List ℕ → List ℕ → StreamAnswer → Event
@@ -247,7 +244,7 @@ abbrev pub h3 : Event
 h3 = happens (after h2) true false store_h WouldBlock WouldBlock
 
 abbrev pub h4 : Event
-h4 = turned (after h3) true (ReadCount 0)
+h4 = turned (after h3) true (Count 0)
 
 -- an in-event and an out-event at once
 abbrev pub h5 : Event
@@ -308,7 +305,7 @@ heard_ops t = map (λ (hdr : List ℕ). (decoded hdr).op) (gathered delivered_by
 
 -- no run: Killed by hand, with the RESPONSE of an opening still pending
 abbrev pub by_hand : VsockConnection
-by_hand = with_state start_a.left.conn Killed Unset start_a.left.conn.pending_rx
+by_hand = with_state start_a.left.conn Killed None start_a.left.conn.pending_rx
 
 -- ---- what the theorems say of them, and what they come to
 
@@ -342,8 +339,8 @@ pub record StoriesHold : Type 0 where
   pub grown : Grown true false (after a6).state
   pub both_off : (after a6).state ≡ PeerClosed true true
   pub six_held : used_of (after a6).tx_buf ≡ 6
-  pub timed : (after a6).expiry ≡ Unset → ⊥
-  pub timer : (after a6).expiry ≡ At 2000
+  pub timed : (after a6).expiry ≡ None → ⊥
+  pub timer : (after a6).expiry ≡ Some 2000
   pub two_held : used_of (after d2).tx_buf ≡ 2
   pub draining_is : Steps (after d2) store_d draining (after d5) store_d
   pub two_outs : outs draining ≡ 2

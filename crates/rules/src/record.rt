@@ -3,14 +3,15 @@ use csm::{ConnState, PendingRxSet, Timer};
 use txbuf::TxBuf;
 
 // What the port has in place of the Rust's constants, beside the ring's size.
-#[derive(Clone, Copy)]
+#[derive(Clone, Copy, Debug, Default, PartialEq, Eq)]
 pub struct Settings {
     pub threshold: u32,
     pub request_timeout: u64,
     pub shutdown_timeout: u64,
 }
 
-#[derive(Clone, Copy)]
+// By `default` all zero, in LocalInit, with no timer: what a refused opening gives.
+#[derive(Clone, Copy, Debug, Default, PartialEq, Eq)]
 pub struct VsockConnection {
     pub settings: Settings,
     pub state: ConnState,

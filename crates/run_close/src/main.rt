@@ -4,13 +4,12 @@
 // it is counted as held.
 #![tactic(auto)]
 
-use connection::{Settings, VsockConnection};
+use connection::{Settings, VsockConnection, VsockPacket};
 use defs::limits::VSOCK_PKT_HDR_SIZE;
-use defs::{ReadAnswer, StreamAnswer, StreamAnswers};
-use packet::{Decoded, VsockPacketHdr, uapi};
+use defs::{StreamAnswer, StreamAnswers};
+use packet::{VsockPacketHdr, uapi};
 use std::io;
-use std::io::Stdout;
-use text::{named, say, yes};
+use std::io::{Stdout, Write};
 
 const RING: u32 = 65536;
 
@@ -21,7 +20,14 @@ const TAKEN: usize = 32640;
 
 const CLOSED_AT: u64 = 1000;
 
+const BOTH_WAYS: u32 = uapi::VSOCK_FLAGS_SHUTDOWN_RCV | uapi::VSOCK_FLAGS_SHUTDOWN_SEND;
+
 const TIMEOUT: u64 = 2000;
+
+const STALLS: StreamAnswers = StreamAnswers {
+    first: StreamAnswer::WouldBlock,
+    second: StreamAnswer::WouldBlock,
+};
 
 fn main(rt: HostRuntime) -> io::Result<()> {
     let mut stdout = rt.stdout();
@@ -29,58 +35,53 @@ fn main(rt: HostRuntime) -> io::Result<()> {
     let data = [0u8; RING as usize];
     let mut out = [0u8; RING as usize];
     let conn = confirmed(opened());
-    let brought = packet(
-        conn,
-        uapi::VSOCK_OP_RW,
-        0,
-        text::front(&data, SENT as usize),
-        &mut storage,
-        takes(TAKEN),
-        &mut out,
-    );
-    let closed = packet(
-        brought,
-        uapi::VSOCK_OP_SHUTDOWN,
-        3,
-        b"",
-        &mut storage,
-        stalls(),
-        &mut out,
-    );
-    named(&mut stdout, b"sent", SENT as u64)?;
-    named(&mut stdout, b", taken", closed.fwd_cnt as u64)?;
-    let ring = closed.tx_buf;
-    named(&mut stdout, b", held", ring.used() as u64)?;
-    say(&mut stdout, b"\n")?;
-    let waiting = connection::notify(closed, false, true, &storage, stalls(), &mut out);
-    ends(&mut stdout, waiting.conn)
+    let takes = StreamAnswers {
+        first: StreamAnswer::Count(TAKEN),
+        ..STALLS
+    };
+    let brought = VsockPacket {
+        hdr: &heading(uapi::VSOCK_OP_RW, 0, SENT),
+        present: true,
+        buf: &data[..SENT as usize],
+    };
+    let conn = packet(conn, brought, &mut storage, takes, &mut out);
+    let closes = VsockPacket {
+        hdr: &heading(uapi::VSOCK_OP_SHUTDOWN, BOTH_WAYS, 0),
+        present: true,
+        buf: b"",
+    };
+    let conn = packet(conn, closes, &mut storage, STALLS, &mut out);
+    let taken = conn.fwd_cnt;
+    let held = conn.tx_buf.used();
+    writeln!(stdout, "sent {SENT}, taken {taken}, held {held}")?;
+    let waiting = connection::notify(conn, false, true, &storage, STALLS, &mut out);
+    ends(&mut stdout, waiting.unwrap_or(conn))
 }
 
 // The timer runs out, the host kills the connection, and the guest is reset.
 fn ends(stdout: &mut Stdout, conn: VsockConnection) -> io::Result<()> {
-    say(stdout, b"expired just before the timer")?;
-    yes(stdout, expired(conn, CLOSED_AT + TIMEOUT - 1))?;
-    say(stdout, b", at it")?;
-    yes(stdout, expired(conn, CLOSED_AT + TIMEOUT))?;
-    say(stdout, b"\n")?;
-    let killed = connection::kill(conn);
+    write!(stdout, "expired just before the timer")?;
+    text::yes(stdout, expired(conn, CLOSED_AT + TIMEOUT - 1))?;
+    write!(stdout, ", at it")?;
+    text::yes(stdout, expired(conn, CLOSED_AT + TIMEOUT))?;
+    writeln!(stdout)?;
+    let killed = connection::kill(conn).unwrap_or(conn);
     let mut hdr = [0u8; VSOCK_PKT_HDR_SIZE];
-    let last = turn(killed.conn, &mut hdr);
-    let ring = last.tx_buf;
-    named(stdout, b"the last packet says op", op_of(&hdr) as u64)?;
-    named(stdout, b", bytes never handed on", ring.used() as u64)?;
-    say(stdout, b"\n")
+    let last = turn(killed, &mut hdr);
+    let op = op_of(&hdr);
+    let lost = last.tx_buf.used();
+    writeln!(
+        stdout,
+        "the last packet says op {op}, bytes never handed on {lost}"
+    )
 }
 
 fn op_of(hdr: &[u8]) -> u16 {
-    let Decoded::Header(said) = packet::decode(hdr) else {
-        return 0;
-    };
-    said.op
+    packet::decode(hdr).map_or(0, |said| said.op)
 }
 
 fn expired(conn: VsockConnection, now_ms: u64) -> bool {
-    connection::has_expired(conn, now_ms).holds
+    connection::has_expired(conn, now_ms).unwrap_or(false)
 }
 
 fn opened() -> VsockConnection {
@@ -89,9 +90,7 @@ fn opened() -> VsockConnection {
         request_timeout: TIMEOUT,
         shutdown_timeout: TIMEOUT,
     };
-    let opening = connection::new_peer_init(RING, settings, 2, 3, 1024, 5000, RING);
-    let conn = opening.conn;
-    conn
+    connection::new_peer_init(RING, settings, 2, 3, 1024, 5000, RING).conn
 }
 
 // The first turn to speak is the RESPONSE.
@@ -101,45 +100,23 @@ fn confirmed(conn: VsockConnection) -> VsockConnection {
 }
 
 fn turn(conn: VsockConnection, hdr: &mut [u8]) -> VsockConnection {
-    let mut none = [0u8; 0];
-    let said = connection::recv_pkt(
-        conn,
-        hdr,
-        false,
-        &mut none,
-        CLOSED_AT,
-        ReadAnswer::WouldBlock,
-        b"",
-    );
-    let next = said.conn;
-    next
+    let nothing = StreamAnswer::WouldBlock;
+    connection::recv_pkt(conn, hdr, false, &mut [], CLOSED_AT, nothing, b"").conn
 }
 
-// A packet of the guest's, all of whose data counts.
+// A packet of the guest's; a refused one leaves the connection as it was.
 fn packet(
     conn: VsockConnection,
-    op: u16,
-    flags: u32,
-    data: &[u8],
+    pkt: VsockPacket<'_, '_>,
     storage: &mut [u8],
     answers: StreamAnswers,
     out: &mut [u8],
 ) -> VsockConnection {
+    connection::send_pkt(conn, pkt, CLOSED_AT, storage, answers, out).unwrap_or(conn)
+}
+
+fn heading(op: u16, flags: u32, len: u32) -> [u8; VSOCK_PKT_HDR_SIZE] {
     let mut hdr = [0u8; VSOCK_PKT_HDR_SIZE];
-    heading(op, flags, length_of(data), &mut hdr);
-    let after = connection::send_pkt(conn, &hdr, true, data, CLOSED_AT, storage, answers, out);
-    let next = after.conn;
-    next
-}
-
-fn length_of(data: &[u8]) -> u32 {
-    if data.len() == 0 {
-        return 0;
-    }
-    SENT
-}
-
-fn heading(op: u16, flags: u32, len: u32, hdr: &mut [u8]) {
     let pkt = VsockPacketHdr {
         src_cid: 3,
         dst_cid: 2,
@@ -152,19 +129,6 @@ fn heading(op: u16, flags: u32, len: u32, hdr: &mut [u8]) {
         buf_alloc: RING,
         fwd_cnt: 0,
     };
-    packet::encode(pkt, hdr);
-}
-
-fn takes(count: usize) -> StreamAnswers {
-    StreamAnswers {
-        first: StreamAnswer::Count(count),
-        second: StreamAnswer::WouldBlock,
-    }
-}
-
-fn stalls() -> StreamAnswers {
-    StreamAnswers {
-        first: StreamAnswer::WouldBlock,
-        second: StreamAnswer::WouldBlock,
-    }
+    let _ = packet::encode(pkt, &mut hdr);
+    hdr
 }

@@ -1,31 +1,27 @@
 // Raw sends: 4, 5, 6 and 10, and one that is done; none leaves an account.
 use crate::show;
-use crate::standing::{SIZE, established, sevens};
-use connection::RawSent;
+use crate::standing::{OVER, SIZE, established, sevens};
 use defs::limits::MAX_PKT_BUF_SIZE;
 use defs::{StreamAnswer, StreamAnswers};
 use std::io;
-use std::io::Stdout;
-use text::{front, named, say};
+use std::io::{Stdout, Write};
+use text::front;
 
 pub fn raw(stdout: &mut Stdout) -> io::Result<()> {
     let buf = sevens();
-    send(stdout, &buf, StreamAnswer::Count(1), 16)?;
-    send(
-        stdout,
-        front(&buf, MAX_PKT_BUF_SIZE),
-        StreamAnswer::Count(1),
-        16,
-    )?;
-    four(stdout, front(&buf, 4))
-}
-
-fn four(stdout: &mut Stdout, buf: &[u8]) -> io::Result<()> {
-    send(stdout, buf, StreamAnswer::Count(5), 3)?;
-    send(stdout, buf, StreamAnswer::Count(4), 3)?;
-    send(stdout, buf, StreamAnswer::WouldBlock, 0)?;
-    send(stdout, buf, StreamAnswer::Failed, 0)?;
-    send(stdout, buf, StreamAnswer::Count(3), 3)
+    let sends = [
+        (OVER, StreamAnswer::Count(1), 16),
+        (MAX_PKT_BUF_SIZE, StreamAnswer::Count(1), 16),
+        (4, StreamAnswer::Count(5), 3),
+        (4, StreamAnswer::Count(4), 3),
+        (4, StreamAnswer::WouldBlock, 0),
+        (4, StreamAnswer::Failed, 0),
+        (4, StreamAnswer::Count(3), 3),
+    ];
+    for (bytes, first, room) in sends {
+        send(stdout, front(&buf, bytes), first, room)?;
+    }
+    Ok(())
 }
 
 fn send(stdout: &mut Stdout, buf: &[u8], first: StreamAnswer, room: usize) -> io::Result<()> {
@@ -33,19 +29,13 @@ fn send(stdout: &mut Stdout, buf: &[u8], first: StreamAnswer, room: usize) -> io
         first,
         second: StreamAnswer::Count(99),
     };
-    let mut out = [0x2eu8; SIZE];
-    named(stdout, b"raw", buf.len() as u64)?;
-    named(stdout, b" room", room as u64)?;
+    let mut out = [b'.'; SIZE];
+    write!(stdout, "raw {} room {room}", buf.len())?;
     show::by(stdout, first)?;
-    let sent = sent_into(buf, answers, &mut out, room);
-    let answer = sent.answer;
-    show::answered(stdout, answer)?;
-    named(stdout, b" count", sent.count as u64)?;
-    show::bytes(stdout, b" out ", &out)?;
-    say(stdout, b"\n")
-}
-
-fn sent_into(buf: &[u8], answers: StreamAnswers, out: &mut [u8], room: usize) -> RawSent {
-    let o = text::fitting(room, out);
-    connection::send_bytes_raw(established(), buf, answers, &mut out[..o])
+    let o = text::fitting(room, &out);
+    let sent = connection::send_bytes_raw(established(), buf, answers, &mut out[..o]);
+    show::answered(stdout, sent)?;
+    write!(stdout, " count {}", sent.unwrap_or(0))?;
+    show::bytes(stdout, "out", &out)?;
+    writeln!(stdout)
 }

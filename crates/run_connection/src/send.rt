@@ -1,14 +1,14 @@
 // Packets of the guest's.
 use crate::show;
 use crate::standing::{OVER, SIZE, established, sevens, standing};
-use connection::VsockConnection;
+use connection::{VsockConnection, VsockPacket};
 use csm::ConnState;
 use defs::limits::{MAX_CLOCK_MS, MAX_PKT_BUF_SIZE, VSOCK_PKT_HDR_SIZE};
 use defs::{StreamAnswer, StreamAnswers};
 use packet::{VsockPacketHdr, uapi};
 use std::io;
-use std::io::Stdout;
-use text::{front, named, say};
+use std::io::{Stdout, Write};
+use text::front;
 
 // What a packet is sent with besides its connection. The buffer holds bytes 07.
 #[derive(Clone, Copy)]
@@ -46,20 +46,20 @@ pub fn send(
     s: Sending,
     first: StreamAnswer,
 ) -> io::Result<VsockConnection> {
-    named(stdout, b"send hdr", s.hdr as u64)?;
-    named(stdout, b" op", s.op as u64)?;
-    named(stdout, b" len", s.len as u64)?;
+    write!(stdout, "send hdr {} op {} len {}", s.hdr, s.op, s.len)?;
     show::buffer(stdout, s.present, s.buf)?;
-    named(stdout, b" clock", s.now_ms)?;
-    named(stdout, b" storage", s.storage as u64)?;
-    named(stdout, b" room", s.room as u64)?;
+    write!(
+        stdout,
+        " clock {} storage {} room {}",
+        s.now_ms, s.storage, s.room
+    )?;
     show::by(stdout, first)?;
-    let mut storage = [0x2eu8; SIZE + 1];
-    let mut out = [0x2eu8; SIZE];
+    let mut storage = [b'.'; SIZE + 1];
+    let mut out = [b'.'; SIZE];
     let next = delivered(stdout, conn, s, first, &mut storage, &mut out)?;
-    show::bytes(stdout, b" storage ", front(&storage, SIZE))?;
-    show::bytes(stdout, b" out ", &out)?;
-    say(stdout, b"\n")?;
+    show::bytes(stdout, "storage", front(&storage, SIZE))?;
+    show::bytes(stdout, "out", &out)?;
+    writeln!(stdout)?;
     Ok(next)
 }
 
@@ -73,28 +73,29 @@ fn delivered(
 ) -> io::Result<VsockConnection> {
     let buf = sevens();
     let mut hdr = [0u8; VSOCK_PKT_HDR_SIZE + 1];
-    let mut whole = [0u8; VSOCK_PKT_HDR_SIZE];
-    heading(s, &mut whole);
-    defs::copy(&mut hdr, &whole);
+    heading(s, &mut hdr[..VSOCK_PKT_HDR_SIZE]);
     let answers = StreamAnswers {
         first,
         second: StreamAnswer::Count(99),
     };
     let t = text::fitting(s.storage, storage);
     let o = text::fitting(s.room, out);
+    let pkt = VsockPacket {
+        hdr: front(&hdr, s.hdr),
+        present: s.present,
+        buf: front(&buf, s.buf),
+    };
     let after = connection::send_pkt(
         conn,
-        front(&hdr, s.hdr),
-        s.present,
-        front(&buf, s.buf),
+        pkt,
         s.now_ms,
         &mut storage[..t],
         answers,
         &mut out[..o],
     );
-    let answer = after.answer;
-    let next = after.conn;
-    show::answered(stdout, answer)?;
+    // A refused packet leaves the connection as it was.
+    let next = after.unwrap_or(conn);
+    show::answered(stdout, after)?;
     show::record(stdout, next)?;
     show::timer(stdout, next)?;
     Ok(next)
@@ -114,116 +115,119 @@ fn heading(s: Sending, hdr: &mut [u8]) {
         buf_alloc: 200,
         fwd_cnt: 0,
     };
-    packet::encode(pkt, hdr);
+    let _ = packet::encode(pkt, hdr);
 }
 
 pub fn clocks(stdout: &mut Stdout) -> io::Result<()> {
-    let mut s = data();
-    s.now_ms = MAX_CLOCK_MS;
-    send(stdout, established(), s, StreamAnswer::Count(8))?;
-    s.now_ms = MAX_CLOCK_MS + 1;
-    send(stdout, established(), s, StreamAnswer::Count(8))?;
+    for now_ms in [MAX_CLOCK_MS, MAX_CLOCK_MS + 1] {
+        let s = Sending { now_ms, ..data() };
+        send(stdout, established(), s, StreamAnswer::Count(8))?;
+    }
     Ok(())
 }
 
 // No header, one of a byte less and one of a byte more; beside the second a bad clock, beside the
 // third a bad storage too: the lowest number.
 pub fn headers(stdout: &mut Stdout) -> io::Result<()> {
-    let mut s = data();
-    s.hdr = 0;
-    send(stdout, established(), s, StreamAnswer::Count(8))?;
-    s.hdr = VSOCK_PKT_HDR_SIZE - 1;
-    s.now_ms = MAX_CLOCK_MS + 1;
-    send(stdout, established(), s, StreamAnswer::Count(8))?;
-    s.hdr = VSOCK_PKT_HDR_SIZE + 1;
-    s.storage = SIZE - 1;
-    send(stdout, established(), s, StreamAnswer::Count(8))?;
+    let none = Sending { hdr: 0, ..data() };
+    let short = Sending {
+        hdr: VSOCK_PKT_HDR_SIZE - 1,
+        now_ms: MAX_CLOCK_MS + 1,
+        ..data()
+    };
+    let long = Sending {
+        hdr: VSOCK_PKT_HDR_SIZE + 1,
+        storage: SIZE - 1,
+        ..short
+    };
+    for s in [none, short, long] {
+        send(stdout, established(), s, StreamAnswer::Count(8))?;
+    }
     Ok(())
 }
 
 // `len` over the buffer is refused in any state, but not where there is no buffer.
 pub fn lengths(stdout: &mut Stdout) -> io::Result<()> {
-    let mut s = data();
-    s.len = 10;
-    send(stdout, established(), s, StreamAnswer::Count(10))?;
-    s.len = 11;
-    send(stdout, established(), s, StreamAnswer::Count(10))?;
-    send(
-        stdout,
-        standing(ConnState::Killed),
-        s,
-        StreamAnswer::Count(10),
-    )?;
-    send(
-        stdout,
-        standing(ConnState::PeerClosed(true, true)),
-        s,
-        StreamAnswer::Count(10),
-    )?;
-    s.present = false;
-    send(stdout, established(), s, StreamAnswer::Count(10))?;
-    large(stdout, s)
+    let ten = StreamAnswer::Count(10);
+    let whole = Sending { len: 10, ..data() };
+    let over = Sending { len: 11, ..data() };
+    let absent = Sending {
+        present: false,
+        ..over
+    };
+    send(stdout, established(), whole, ten)?;
+    for state in [
+        ConnState::Established,
+        ConnState::Killed,
+        ConnState::PeerClosed(true, true),
+    ] {
+        send(stdout, standing(state), over, ten)?;
+    }
+    send(stdout, established(), absent, ten)?;
+    large(stdout, absent)
 }
 
 // The largest buffer and one byte more; the second is ignored where it doesn't count.
 fn large(stdout: &mut Stdout, sending: Sending) -> io::Result<()> {
-    let mut s = sending;
-    s.op = uapi::VSOCK_OP_CREDIT_REQUEST;
-    s.present = true;
-    s.buf = MAX_PKT_BUF_SIZE;
-    send(stdout, established(), s, StreamAnswer::Failed)?;
-    s.buf = OVER;
-    send(stdout, established(), s, StreamAnswer::Failed)?;
-    s.present = false;
-    send(stdout, established(), s, StreamAnswer::Failed)?;
+    for (buf, present) in [(MAX_PKT_BUF_SIZE, true), (OVER, true), (OVER, false)] {
+        let s = Sending {
+            op: uapi::VSOCK_OP_CREDIT_REQUEST,
+            present,
+            buf,
+            ..sending
+        };
+        send(stdout, established(), s, StreamAnswer::Failed)?;
+    }
     Ok(())
 }
 
 // Ops that have no rule: credit is stored, and nothing more.
 pub fn ops(stdout: &mut Stdout) -> io::Result<()> {
-    let mut s = data();
-    s.op = 0;
-    send(stdout, established(), s, StreamAnswer::Failed)?;
-    s.op = 8;
-    send(stdout, established(), s, StreamAnswer::Failed)?;
-    s.op = u16::MAX;
-    send(stdout, established(), s, StreamAnswer::Failed)?;
+    for op in [0, 8, u16::MAX] {
+        let s = Sending { op, ..data() };
+        send(stdout, established(), s, StreamAnswer::Failed)?;
+    }
     Ok(())
 }
 
 // Counts up to what was offered and over it, room for them and not; a failure kills, also of a
 // write of no bytes, a would-block doesn't.
 pub fn answers(stdout: &mut Stdout) -> io::Result<()> {
-    let mut s = data();
-    send(stdout, established(), s, StreamAnswer::Count(3))?;
-    send(stdout, established(), s, StreamAnswer::Count(9))?;
-    s.room = 7;
-    send(stdout, established(), s, StreamAnswer::Count(8))?;
-    send(stdout, established(), s, StreamAnswer::Count(9))?;
-    send(stdout, established(), s, StreamAnswer::Count(7))?;
-    send(stdout, established(), s, StreamAnswer::WouldBlock)?;
-    send(stdout, established(), s, StreamAnswer::Failed)?;
-    s.len = 0;
-    s.buf = 0;
-    send(stdout, established(), s, StreamAnswer::Failed)?;
+    for count in [3, 9] {
+        send(stdout, established(), data(), StreamAnswer::Count(count))?;
+    }
+    let tight = Sending { room: 7, ..data() };
+    for answer in [
+        StreamAnswer::Count(8),
+        StreamAnswer::Count(9),
+        StreamAnswer::Count(7),
+        StreamAnswer::WouldBlock,
+        StreamAnswer::Failed,
+    ] {
+        send(stdout, established(), tight, answer)?;
+    }
+    let empty = Sending {
+        len: 0,
+        buf: 0,
+        ..tight
+    };
+    send(stdout, established(), empty, StreamAnswer::Failed)?;
     Ok(())
 }
 
 // A storage of one byte less and one more than the ring's size. In a ring that holds bytes no
 // write is made, so no answer is looked at; and it is full at 16.
 pub fn storages(stdout: &mut Stdout) -> io::Result<()> {
-    let mut s = data();
-    s.storage = SIZE - 1;
-    send(stdout, established(), s, StreamAnswer::Count(8))?;
-    s.storage = SIZE + 1;
-    send(stdout, established(), s, StreamAnswer::Count(8))?;
-    s.storage = SIZE;
-    let held = send(stdout, established(), s, StreamAnswer::Count(0))?;
-    let full = send(stdout, held, s, StreamAnswer::Count(99))?;
-    s.len = 0;
-    let still = send(stdout, full, s, StreamAnswer::Failed)?;
-    s.len = 1;
-    send(stdout, still, s, StreamAnswer::Failed)?;
+    for storage in [SIZE - 1, SIZE + 1] {
+        let s = Sending { storage, ..data() };
+        send(stdout, established(), s, StreamAnswer::Count(8))?;
+    }
+    let held = send(stdout, established(), data(), StreamAnswer::Count(0))?;
+    let full = send(stdout, held, data(), StreamAnswer::Count(99))?;
+    let none = Sending { len: 0, ..data() };
+    let still = send(stdout, full, none, StreamAnswer::Failed)?;
+    let one = Sending { len: 1, ..data() };
+    send(stdout, still, one, StreamAnswer::Failed)?;
     Ok(())
 }
 
@@ -231,12 +235,12 @@ pub fn storages(stdout: &mut Stdout) -> io::Result<()> {
 pub fn unsound(stdout: &mut Stdout) -> io::Result<()> {
     let mut over = established();
     over.tx_buf.head = 17;
-    send(stdout, over, data(), StreamAnswer::Count(8))?;
     let mut threshold = established();
     threshold.settings.threshold = 17;
-    send(stdout, threshold, data(), StreamAnswer::Count(8))?;
     let mut timeout = established();
     timeout.settings.shutdown_timeout = 0;
-    send(stdout, timeout, data(), StreamAnswer::Count(8))?;
+    for conn in [over, threshold, timeout] {
+        send(stdout, conn, data(), StreamAnswer::Count(8))?;
+    }
     Ok(())
 }

@@ -1,84 +1,77 @@
 // What a line shows of answers, records and buffers.
 use connection::VsockConnection;
-use csm::{ConnState, Timer};
-use defs::{Answer, ReadAnswer, StreamAnswer};
+use csm::ConnState;
+use defs::{Refusal, StreamAnswer};
 use std::io;
-use std::io::Stdout;
-use text::{named, say};
+use std::io::{Stdout, Write};
 
-pub fn answered(stdout: &mut Stdout, answer: Answer) -> io::Result<()> {
-    named(stdout, b":", defs::number_of(answer) as u64)
+// By 01's number of the answer, whatever it gives.
+pub fn answered<T: Copy>(stdout: &mut Stdout, outcome: Result<T, Refusal>) -> io::Result<()> {
+    write!(stdout, ": {}", defs::number_of(outcome.and(Ok(()))))
 }
 
 // The length of a buffer, where there is one.
 pub fn buffer(stdout: &mut Stdout, present: bool, n: usize) -> io::Result<()> {
     if present {
-        named(stdout, b" buf", n as u64)
+        write!(stdout, " buf {n}")
     } else {
-        say(stdout, b" no buf")
+        write!(stdout, " no buf")
     }
 }
 
-pub fn bytes(stdout: &mut Stdout, name: &[u8], shown: &[u8]) -> io::Result<()> {
-    say(stdout, name)?;
+pub fn bytes(stdout: &mut Stdout, name: &str, shown: &[u8]) -> io::Result<()> {
+    write!(stdout, " {name} ")?;
     text::bytes(stdout, shown)
 }
 
+// As `run_ring`'s, in the words of this output.
 pub fn by(stdout: &mut Stdout, answer: StreamAnswer) -> io::Result<()> {
     match answer {
-        StreamAnswer::Count(n) => named(stdout, b" by", n as u64),
-        StreamAnswer::WouldBlock => say(stdout, b" blocks"),
-        StreamAnswer::Failed => say(stdout, b" fails"),
+        StreamAnswer::Count(n) => write!(stdout, " by {n}"),
+        StreamAnswer::WouldBlock => write!(stdout, " blocks"),
+        StreamAnswer::Failed => write!(stdout, " fails"),
     }
 }
 
-pub fn read_by(stdout: &mut Stdout, answer: ReadAnswer) -> io::Result<()> {
-    match answer {
-        ReadAnswer::Count(n) => named(stdout, b" by", n as u64),
-        ReadAnswer::WouldBlock => say(stdout, b" blocks"),
-        ReadAnswer::Failed => say(stdout, b" fails"),
-    }
-}
-
+// The bare name: a `Display` of the state would have to show the flags of PeerClosed.
 pub fn state(stdout: &mut Stdout, conn: VsockConnection) -> io::Result<()> {
-    let is = conn.state;
-    match is {
-        ConnState::LocalInit => say(stdout, b" LocalInit"),
-        ConnState::PeerInit => say(stdout, b" PeerInit"),
-        ConnState::Established => say(stdout, b" Established"),
-        ConnState::LocalClosed => say(stdout, b" LocalClosed"),
-        ConnState::PeerClosed(_, _) => say(stdout, b" PeerClosed"),
-        ConnState::Killed => say(stdout, b" Killed"),
-    }
+    let name = match conn.state {
+        ConnState::LocalInit => "LocalInit",
+        ConnState::PeerInit => "PeerInit",
+        ConnState::Established => "Established",
+        ConnState::LocalClosed => "LocalClosed",
+        ConnState::PeerClosed(_, _) => "PeerClosed",
+        ConnState::Killed => "Killed",
+    };
+    write!(stdout, " {name}")
 }
 
 pub fn timer(stdout: &mut Stdout, conn: VsockConnection) -> io::Result<()> {
-    let set = conn.expiry;
-    match set {
-        Timer::Unset => say(stdout, b" no timer"),
-        Timer::At(time) => named(stdout, b" timer", time),
+    match conn.expiry {
+        None => write!(stdout, " no timer"),
+        Some(time) => write!(stdout, " timer {time}"),
     }
 }
 
 pub fn pending(stdout: &mut Stdout, conn: VsockConnection) -> io::Result<()> {
-    let p = conn.pending_rx;
-    if p.rst {
-        say(stdout, b" rst")?;
-    }
-    if p.rw {
-        say(stdout, b" rw")?;
-    }
-    if p.credit_update {
-        say(stdout, b" update")?;
+    let pending = conn.pending_rx;
+    let marks = [
+        (pending.rst, "rst"),
+        (pending.rw, "rw"),
+        (pending.credit_update, "update"),
+    ];
+    for (is_set, name) in marks {
+        if is_set {
+            write!(stdout, " {name}")?;
+        }
     }
     Ok(())
 }
 
 pub fn record(stdout: &mut Stdout, conn: VsockConnection) -> io::Result<()> {
-    let ring = conn.tx_buf;
+    let alloc = conn.peer_buf_alloc;
+    let held = conn.tx_buf.used();
     state(stdout, conn)?;
-    named(stdout, b" alloc", conn.peer_buf_alloc as u64)?;
-    named(stdout, b" held", ring.used() as u64)?;
-    named(stdout, b" fwd", conn.fwd_cnt as u64)?;
+    write!(stdout, " alloc {alloc} held {held} fwd {}", conn.fwd_cnt)?;
     pending(stdout, conn)
 }

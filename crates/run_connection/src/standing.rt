@@ -1,6 +1,6 @@
 // The connections that calls are made on, and the bytes that they are lent.
 use connection::{Settings, VsockConnection};
-use csm::{ConnState, PendingRxSet, Timer};
+use csm::{ConnState, PendingRxSet};
 use defs::limits::MAX_PKT_BUF_SIZE;
 use txbuf::TxBuf;
 
@@ -26,22 +26,10 @@ pub fn standing(state: ConnState) -> VsockConnection {
         peer_port: 5000,
         tx_buf: TxBuf {
             size: SIZE as u32,
-            head: 0,
-            tail: 0,
+            ..TxBuf::default()
         },
-        fwd_cnt: 0,
         peer_buf_alloc: 100,
-        peer_fwd_cnt: 0,
-        rx_cnt: 0,
-        last_fwd_cnt_to_peer: 0,
-        pending_rx: PendingRxSet {
-            request: false,
-            response: false,
-            rst: false,
-            rw: false,
-            credit_update: false,
-        },
-        expiry: Timer::Unset,
+        ..VsockConnection::default()
     }
 }
 
@@ -51,9 +39,13 @@ pub fn established() -> VsockConnection {
 
 // A connection with data to read.
 pub fn readable(is: ConnState) -> VsockConnection {
-    let mut conn = standing(is);
-    conn.pending_rx.rw = true;
-    conn
+    VsockConnection {
+        pending_rx: PendingRxSet {
+            rw: true,
+            ..PendingRxSet::default()
+        },
+        ..standing(is)
+    }
 }
 
 pub fn sevens() -> [u8; OVER] {
@@ -61,5 +53,5 @@ pub fn sevens() -> [u8; OVER] {
 }
 
 pub fn dots() -> [u8; OVER] {
-    [0x2eu8; OVER]
+    [b'.'; OVER]
 }

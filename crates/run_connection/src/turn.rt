@@ -3,12 +3,11 @@ use crate::show;
 use crate::standing::{OVER, SIZE, dots, established, readable};
 use connection::VsockConnection;
 use csm::ConnState;
-use defs::ReadAnswer;
+use defs::StreamAnswer;
 use defs::limits::{MAX_CLOCK_MS, MAX_PKT_BUF_SIZE, VSOCK_PKT_HDR_SIZE};
-use packet::Decoded;
 use std::io;
-use std::io::Stdout;
-use text::{front, named, say};
+use std::io::{Stdout, Write};
+use text::front;
 
 // What a turn to speak is given.
 #[derive(Clone, Copy)]
@@ -36,19 +35,18 @@ fn turn(
     stdout: &mut Stdout,
     conn: VsockConnection,
     t: Speaking,
-    answer: ReadAnswer,
+    answer: StreamAnswer,
 ) -> io::Result<VsockConnection> {
-    named(stdout, b"turn hdr", t.hdr as u64)?;
+    write!(stdout, "turn hdr {}", t.hdr)?;
     show::buffer(stdout, t.present, t.buf)?;
-    named(stdout, b" clock", t.now_ms)?;
-    named(stdout, b" supplied", t.supplied as u64)?;
-    show::read_by(stdout, answer)?;
+    write!(stdout, " clock {} supplied {}", t.now_ms, t.supplied)?;
+    show::by(stdout, answer)?;
     let mut hdr = [0u8; VSOCK_PKT_HDR_SIZE + 1];
     let mut buf = dots();
     let next = spoken(stdout, conn, t, answer, &mut hdr, &mut buf)?;
     header(stdout, front(&hdr, VSOCK_PKT_HDR_SIZE))?;
-    show::bytes(stdout, b" buffer ", front(&buf, SIZE))?;
-    say(stdout, b"\n")?;
+    show::bytes(stdout, "buffer", front(&buf, SIZE))?;
+    writeln!(stdout)?;
     Ok(next)
 }
 
@@ -56,7 +54,7 @@ fn spoken(
     stdout: &mut Stdout,
     conn: VsockConnection,
     t: Speaking,
-    answer: ReadAnswer,
+    answer: StreamAnswer,
     hdr: &mut [u8],
     buf: &mut [u8],
 ) -> io::Result<VsockConnection> {
@@ -72,46 +70,60 @@ fn spoken(
         answer,
         front(&read, t.supplied),
     );
-    let said = after.answer;
     let next = after.conn;
-    show::answered(stdout, said)?;
+    show::answered(stdout, after.answer)?;
     show::state(stdout, next)?;
-    named(stdout, b" sent", next.rx_cnt as u64)?;
+    write!(stdout, " sent {}", next.rx_cnt)?;
     show::pending(stdout, next)?;
     show::timer(stdout, next)?;
     Ok(next)
 }
 
 fn header(stdout: &mut Stdout, hdr: &[u8]) -> io::Result<()> {
-    let Decoded::Header(said) = packet::decode(hdr) else {
+    let Ok(said) = packet::decode(hdr) else {
         return Ok(());
     };
-    named(stdout, b" type", said.type_ as u64)?;
-    named(stdout, b" op", said.op as u64)?;
-    named(stdout, b" len", said.len as u64)?;
-    named(stdout, b" flags", said.flags as u64)
+    write!(stdout, " type {} op {}", said.type_, said.op)?;
+    write!(stdout, " len {} flags {}", said.len, said.flags)
 }
 
 // Header lengths, clocks and buffers on both sides of their limits; a buffer that is absent is not
 // measured.
 pub fn turns(stdout: &mut Stdout) -> io::Result<()> {
-    let mut t = usual();
-    turn(stdout, established(), t, ReadAnswer::Failed)?;
-    t.hdr = VSOCK_PKT_HDR_SIZE - 1;
-    turn(stdout, established(), t, ReadAnswer::Failed)?;
-    t.hdr = VSOCK_PKT_HDR_SIZE + 1;
-    t.now_ms = MAX_CLOCK_MS + 1;
-    turn(stdout, established(), t, ReadAnswer::Failed)?;
-    t.hdr = VSOCK_PKT_HDR_SIZE;
-    turn(stdout, established(), t, ReadAnswer::Failed)?;
-    t.now_ms = MAX_CLOCK_MS;
-    t.buf = OVER;
-    turn(stdout, established(), t, ReadAnswer::Failed)?;
-    t.buf = MAX_PKT_BUF_SIZE;
-    turn(stdout, established(), t, ReadAnswer::Failed)?;
-    t.buf = OVER;
-    t.present = false;
-    turn(stdout, established(), t, ReadAnswer::Failed)?;
+    let usual = usual();
+    let late = Speaking {
+        now_ms: MAX_CLOCK_MS + 1,
+        ..usual
+    };
+    let last = Speaking {
+        now_ms: MAX_CLOCK_MS,
+        ..usual
+    };
+    let speakings = [
+        usual,
+        Speaking {
+            hdr: VSOCK_PKT_HDR_SIZE - 1,
+            ..usual
+        },
+        Speaking {
+            hdr: VSOCK_PKT_HDR_SIZE + 1,
+            ..late
+        },
+        late,
+        Speaking { buf: OVER, ..last },
+        Speaking {
+            buf: MAX_PKT_BUF_SIZE,
+            ..last
+        },
+        Speaking {
+            buf: OVER,
+            present: false,
+            ..last
+        },
+    ];
+    for t in speakings {
+        turn(stdout, established(), t, StreamAnswer::Failed)?;
+    }
     Ok(())
 }
 
@@ -119,23 +131,29 @@ pub fn turns(stdout: &mut Stdout) -> io::Result<()> {
 // a state that gives no data is reset, and its answer is not looked at.
 pub fn answers(stdout: &mut Stdout) -> io::Result<()> {
     let is = ConnState::Established;
-    let mut t = usual();
-    turn(stdout, readable(is), t, ReadAnswer::Count(16))?;
-    turn(stdout, readable(is), t, ReadAnswer::Count(17))?;
-    t.supplied = 3;
-    turn(stdout, readable(is), t, ReadAnswer::Count(3))?;
-    turn(stdout, readable(is), t, ReadAnswer::Count(4))?;
-    turn(stdout, readable(is), t, ReadAnswer::Count(0))?;
-    turn(stdout, readable(is), t, ReadAnswer::WouldBlock)?;
-    turn(stdout, readable(is), t, ReadAnswer::Failed)?;
-    t.present = false;
-    turn(stdout, readable(is), t, ReadAnswer::Count(99))?;
-    turn(
-        stdout,
-        readable(ConnState::Killed),
-        t,
-        ReadAnswer::Count(99),
-    )?;
+    for count in [16, 17] {
+        turn(stdout, readable(is), usual(), StreamAnswer::Count(count))?;
+    }
+    let three = Speaking {
+        supplied: 3,
+        ..usual()
+    };
+    for answer in [
+        StreamAnswer::Count(3),
+        StreamAnswer::Count(4),
+        StreamAnswer::Count(0),
+        StreamAnswer::WouldBlock,
+        StreamAnswer::Failed,
+    ] {
+        turn(stdout, readable(is), three, answer)?;
+    }
+    let absent = Speaking {
+        present: false,
+        ..three
+    };
+    for state in [is, ConnState::Killed] {
+        turn(stdout, readable(state), absent, StreamAnswer::Count(99))?;
+    }
     little_credit(stdout, usual())
 }
 
@@ -144,10 +162,9 @@ pub fn answers(stdout: &mut Stdout) -> io::Result<()> {
 fn little_credit(stdout: &mut Stdout, t: Speaking) -> io::Result<()> {
     let mut conn = readable(ConnState::Established);
     conn.peer_buf_alloc = 2;
-    turn(stdout, conn, t, ReadAnswer::Count(3))?;
-    let none = turn(stdout, conn, t, ReadAnswer::Count(2))?;
-    let mut again = none;
+    turn(stdout, conn, t, StreamAnswer::Count(3))?;
+    let mut again = turn(stdout, conn, t, StreamAnswer::Count(2))?;
     again.pending_rx.rw = true;
-    turn(stdout, again, t, ReadAnswer::Count(99))?;
+    turn(stdout, again, t, StreamAnswer::Count(99))?;
     Ok(())
 }

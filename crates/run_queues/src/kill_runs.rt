@@ -1,9 +1,9 @@
 // Runs of the kill queue.
-use crate::kill::{build, equal, last, look, new, pop, push};
-use crate::shared::many_ports;
+use crate::kill::{build, equal, look, new, pop, push};
+use crate::shared::{last, many_ports};
 use conn_map::{ConnMapKey, PORT_SPAN};
 use defs::limits::{MAX_CLOCK_MS, MAX_CONNECTIONS, MAX_KILLQ_SIZE, MIN_KILLQ_SIZE};
-use muxer_killq::{MuxerKillQ, MuxerKillQItem};
+use muxer_killq::{KillQueue, MuxerKillQ, MuxerKillQItem};
 use std::io;
 use std::io::Stdout;
 
@@ -63,29 +63,21 @@ fn full_of_one(stdout: &mut Stdout) -> io::Result<()> {
 // A queue of the largest limit with so many items pushed.
 fn filled(stdout: &mut Stdout, n: usize) -> io::Result<MuxerKillQ> {
     let mut queue = new(stdout, MAX_KILLQ_SIZE)?;
-    let mut i = 0;
-    while i < n {
-        let key = ConnMapKey {
-            local_port: 5,
-            peer_port: 1,
-        };
-        let pushed = queue.push(key, 500);
-        queue = pushed.queue;
-        i += 1;
+    let key = ConnMapKey {
+        local_port: 5,
+        peer_port: 1,
+    };
+    for _ in 0..n {
+        queue = queue.push(key, 500).queue;
     }
     Ok(queue)
 }
 
 // A stray item past the length, a length past the limit.
 pub fn unsound(stdout: &mut Stdout) -> io::Result<()> {
-    let item = MuxerKillQItem {
-        local_port: 0,
-        peer_port: 0,
-        kill_time: 7,
-    };
     let empty = new(stdout, 2)?;
     let mut stray = push(stdout, empty, 1, 500)?;
-    stray.q[2] = item;
+    stray.q[2].kill_time = 7;
     let longer = push(stdout, stray, 2, 500)?;
     pop(stdout, longer, MAX_CLOCK_MS + 1)?;
     look(stdout, stray)?;
@@ -107,13 +99,12 @@ pub fn tables(stdout: &mut Stdout) -> io::Result<()> {
         5 * PORT_SPAN + 7,
         PORT_SPAN + 7,
     ];
-    let times = [700u64, 500u64, 700u64, 600u64, 0u64, 900u64];
-    let used = [1u8, 1u8, 1u8, 1u8, 1u8, 0u8];
-    let all = [1u8; 6];
-    build(stdout, 0, 500, &ports, &used, &times)?;
-    build(stdout, 1, 500, &ports, &used, &times)?;
-    build(stdout, 2, 500, &ports, &used, &times)?;
-    build(stdout, 3, 500, &ports, &used, &times)?;
+    let times = [700, 500, 700, 600, 0, 900];
+    let used = [1, 1, 1, 1, 1, 0];
+    let all = [1; 6];
+    for limit in 0..4 {
+        build(stdout, limit, 500, &ports, &used, &times)?;
+    }
     build(stdout, 4, 499, &ports, &used, &times)?;
     build(stdout, MAX_KILLQ_SIZE, 700, &ports, &used, &times)?;
     build(stdout, MAX_KILLQ_SIZE + 1, 500, &ports, &used, &times)?;
@@ -128,8 +119,8 @@ pub fn tables(stdout: &mut Stdout) -> io::Result<()> {
 // As many slots as a table may have, all of one time; then as many of them as the queue holds.
 fn wide(stdout: &mut Stdout) -> io::Result<()> {
     let ports = many_ports();
-    let used = [1u8; MAX_CONNECTIONS];
-    let times = [700u64; MAX_CONNECTIONS];
+    let used = [1; MAX_CONNECTIONS];
+    let times = [700; MAX_CONNECTIONS];
     let at = MAX_CONNECTIONS - MAX_KILLQ_SIZE;
     let built = build(stdout, MAX_KILLQ_SIZE, 699, &ports, &used, &times)?;
     last(stdout, built)?;

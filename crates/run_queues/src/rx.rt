@@ -1,39 +1,22 @@
 // Calls on the RX queue, each with its line. An item is shown as r or c and its local and peer port.
-use crate::shared::{answered, left, ports, told};
-use defs::Answer;
-use defs::limits::MAX_RXQ_SIZE;
-use muxer_rxq::{MuxerRx, MuxerRxQ};
+use crate::shared::{Shown, answered, left, made, told};
+use muxer_rxq::{MuxerRx, MuxerRxQ, RxQueue};
 use std::io;
-use std::io::Stdout;
-use text::{named, say};
+use std::io::{Stdout, Write};
 
-fn item(stdout: &mut Stdout, it: MuxerRx) -> io::Result<()> {
-    if it.rst {
-        say(stdout, b" r")?;
-    } else {
-        say(stdout, b" c")?;
+impl Shown for MuxerRx {
+    fn name() -> &'static str {
+        "rx"
     }
-    ports(stdout, it.local_port, it.peer_port)
-}
 
-fn end(stdout: &mut Stdout, answer: Answer, queue: MuxerRxQ) -> io::Result<()> {
-    left(stdout, answer, queue.len, queue.limit, queue.synced)?;
-    let a = queue.q[0];
-    let b = queue.q[1];
-    let c = queue.q[2];
-    item(stdout, a)?;
-    item(stdout, b)?;
-    item(stdout, c)?;
-    say(stdout, b" \n")
+    fn show(self, stdout: &mut Stdout) -> io::Result<()> {
+        let kind = if self.rst { "r" } else { "c" };
+        write!(stdout, " {kind}{}/{}", self.local_port, self.peer_port)
+    }
 }
 
 pub fn new(stdout: &mut Stdout, limit: usize) -> io::Result<MuxerRxQ> {
-    named(stdout, b"rx new", limit as u64)?;
-    let made = MuxerRxQ::new(limit);
-    let answer = made.answer;
-    let queue = made.queue;
-    end(stdout, answer, queue)?;
-    Ok(queue)
+    made(stdout, limit, MuxerRxQ::new(limit))
 }
 
 pub fn push(
@@ -47,69 +30,46 @@ pub fn push(
         local_port,
         peer_port: 1,
     };
-    say(stdout, b"rx push")?;
-    item(stdout, rx)?;
+    write!(stdout, "rx push")?;
+    rx.show(stdout)?;
     let pushed = queue.push(rx);
-    let answer = pushed.answer;
-    let next = pushed.queue;
-    end(stdout, answer, next)?;
-    Ok(next)
+    left(stdout, pushed.answer, pushed.queue)?;
+    Ok(pushed.queue)
 }
 
 pub fn pop(stdout: &mut Stdout, queue: MuxerRxQ) -> io::Result<MuxerRxQ> {
     let popped = queue.pop();
-    let answer = popped.answer;
-    let it = popped.item;
-    let next = popped.queue;
-    say(stdout, b"rx pop")?;
-    text::yes(stdout, popped.found)?;
-    item(stdout, it)?;
-    end(stdout, answer, next)?;
-    Ok(next)
+    let front = popped.given.unwrap_or(None);
+    write!(stdout, "rx pop")?;
+    text::yes(stdout, front.is_some())?;
+    front.unwrap_or_default().show(stdout)?;
+    left(stdout, popped.given.and(Ok(())), popped.queue)?;
+    Ok(popped.queue)
 }
 
 pub fn look(stdout: &mut Stdout, queue: MuxerRxQ) -> io::Result<()> {
-    let synced = queue.is_synced();
     let len = queue.len();
-    let empty = queue.is_empty();
-    let full = queue.is_full();
     let front = queue.peek();
-    let synced_answer = synced.answer;
-    let len_answer = len.answer;
-    let empty_answer = empty.answer;
-    let full_answer = full.answer;
-    let front_answer = front.answer;
-    let it = front.item;
-    told(stdout, b"rx look synced", synced.holds, synced_answer)?;
-    named(stdout, b" len", len.len as u64)?;
-    answered(stdout, len_answer)?;
-    told(stdout, b" empty", empty.holds, empty_answer)?;
-    told(stdout, b" full", full.holds, full_answer)?;
-    told(stdout, b" front", front.found, front_answer)?;
-    item(stdout, it)?;
-    say(stdout, b" \n")
+    write!(stdout, "rx look")?;
+    told(stdout, "synced", queue.is_synced())?;
+    write!(stdout, " len {}", len.unwrap_or(0))?;
+    answered(stdout, len.and(Ok(())))?;
+    told(stdout, "empty", queue.is_empty())?;
+    told(stdout, "full", queue.is_full())?;
+    told(stdout, "front", front.map(|item| item.is_some()))?;
+    front.unwrap_or(None).unwrap_or_default().show(stdout)?;
+    writeln!(stdout, " ")
 }
 
-pub fn last(stdout: &mut Stdout, queue: MuxerRxQ) -> io::Result<()> {
-    let at = MAX_RXQ_SIZE - 1;
-    named(stdout, b"rx place", at as u64)?;
-    let it = queue.q[at];
-    item(stdout, it)?;
-    say(stdout, b" \n")
-}
-
-pub fn build<'a>(
+pub fn build(
     stdout: &mut Stdout,
     limit: usize,
-    ports: &'a [u64],
-    used: &'a [u8],
-    pending: &'a [u8],
+    ports: &[u64],
+    used: &[u8],
+    pending: &[u8],
 ) -> io::Result<MuxerRxQ> {
-    named(stdout, b"rx build", limit as u64)?;
-    named(stdout, b" slots", ports.len() as u64)?;
+    write!(stdout, "rx build {limit} slots {}", ports.len())?;
     let built = MuxerRxQ::from_conn_map(limit, ports, used, pending);
-    let answer = built.answer;
-    let queue = built.queue;
-    end(stdout, answer, queue)?;
-    Ok(queue)
+    left(stdout, built.answer, built.queue)?;
+    Ok(built.queue)
 }

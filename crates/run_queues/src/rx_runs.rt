@@ -1,9 +1,9 @@
 // Runs of the RX queue.
-use crate::rx::{build, last, look, new, pop, push};
-use crate::shared::many_ports;
+use crate::rx::{build, look, new, pop, push};
+use crate::shared::{last, many_ports};
 use conn_map::PORT_SPAN;
 use defs::limits::{MAX_CONNECTIONS, MAX_RXQ_SIZE, MIN_RXQ_SIZE};
-use muxer_rxq::{MuxerRx, MuxerRxQ};
+use muxer_rxq::{MuxerRx, MuxerRxQ, RxQueue};
 use std::io;
 use std::io::Stdout;
 
@@ -64,30 +64,22 @@ pub fn full(stdout: &mut Stdout) -> io::Result<()> {
 // A queue of the largest limit with so many items pushed.
 fn filled(stdout: &mut Stdout, n: usize, rst: bool) -> io::Result<MuxerRxQ> {
     let mut queue = new(stdout, MAX_RXQ_SIZE)?;
-    let mut i = 0;
-    while i < n {
-        let rx = MuxerRx {
-            rst,
-            local_port: 5,
-            peer_port: 1,
-        };
-        let pushed = queue.push(rx);
-        queue = pushed.queue;
-        i += 1;
+    let rx = MuxerRx {
+        rst,
+        local_port: 5,
+        peer_port: 1,
+    };
+    for _ in 0..n {
+        queue = queue.push(rx).queue;
     }
     Ok(queue)
 }
 
 // A stray item past the length, a length past the limit, a limit past the largest.
 pub fn unsound(stdout: &mut Stdout) -> io::Result<()> {
-    let item = MuxerRx {
-        rst: false,
-        local_port: 0,
-        peer_port: 7,
-    };
     let empty = new(stdout, 2)?;
     let mut stray = push(stdout, empty, false, 1)?;
-    stray.q[2] = item;
+    stray.q[2].peer_port = 7;
     let longer = push(stdout, stray, true, 8)?;
     pop(stdout, longer)?;
     look(stdout, stray)?;
@@ -112,20 +104,19 @@ pub fn tables(stdout: &mut Stdout) -> io::Result<()> {
         PORT_SPAN + 7,
         3 * PORT_SPAN + 7,
     ];
-    let used = [1u8, 1u8, 0u8, 1u8];
-    let every = [1u8; 4];
-    let all = [1u8; 4];
-    let some = [0u8, 1u8, 1u8, 1u8];
-    build(stdout, 0, &ports, &used, &all)?;
-    build(stdout, 1, &ports, &used, &all)?;
-    build(stdout, 2, &ports, &used, &all)?;
-    build(stdout, 3, &ports, &used, &all)?;
+    let used = [1, 1, 0, 1];
+    let every = [1; 4];
+    let all = [1; 4];
+    let some = [0, 1, 1, 1];
+    for limit in 0..4 {
+        build(stdout, limit, &ports, &used, &all)?;
+    }
     build(stdout, MAX_RXQ_SIZE + 1, &ports, &used, &all)?;
     build(stdout, 2, &ports, &used, &some)?;
     build(stdout, 3, &ports, &every, &all)?;
-    build(stdout, 3, &ports[..2], &every[..2], &all[..2])?;
-    build(stdout, 3, &ports[..1], &every[..1], &all[..1])?;
-    build(stdout, 3, &ports[..0], &every[..0], &all[..0])?;
+    for n in [2, 1, 0] {
+        build(stdout, 3, &ports[..n], &every[..n], &all[..n])?;
+    }
     build(stdout, 3, &ports, &used, &all[..3])?;
     build(stdout, 3, &ports, &used[..3], &all)?;
     wide(stdout)
@@ -133,9 +124,9 @@ pub fn tables(stdout: &mut Stdout) -> io::Result<()> {
 
 // As many slots as a table may have, one more, and one over half as many, of which few are used.
 fn wide(stdout: &mut Stdout) -> io::Result<()> {
-    let ports = [0u64; MAX_CONNECTIONS + 1];
-    let mut used = [0u8; MAX_CONNECTIONS + 1];
-    let pending = [1u8; MAX_CONNECTIONS + 1];
+    let ports = [0; MAX_CONNECTIONS + 1];
+    let mut used = [0; MAX_CONNECTIONS + 1];
+    let pending = [1; MAX_CONNECTIONS + 1];
     let n = MAX_CONNECTIONS;
     used[n - 1] = 1;
     build(stdout, MAX_RXQ_SIZE, &ports[..n], &used[..n], &pending[..n])?;
@@ -155,8 +146,8 @@ fn wide(stdout: &mut Stdout) -> io::Result<()> {
 // As many slots as a table may have, all used and pending; then as many of them as the queue holds.
 fn many(stdout: &mut Stdout) -> io::Result<()> {
     let ports = many_ports();
-    let used = [1u8; MAX_CONNECTIONS];
-    let pending = [1u8; MAX_CONNECTIONS];
+    let used = [1; MAX_CONNECTIONS];
+    let pending = [1; MAX_CONNECTIONS];
     let at = MAX_CONNECTIONS - MAX_RXQ_SIZE;
     let built = build(stdout, MAX_RXQ_SIZE, &ports, &used, &pending)?;
     last(stdout, built)?;

@@ -2,9 +2,9 @@
 use crate::scene::established;
 use conn_map::ConnMapKey;
 use connection::VsockConnection;
-use csm::{ConnState, Timer};
-use muxer_killq::MuxerKillQ;
-use muxer_rxq::{MuxerRx, MuxerRxQ};
+use csm::ConnState;
+use muxer_killq::{KillQueue, MuxerKillQ};
+use muxer_rxq::{MuxerRx, MuxerRxQ, RxQueue};
 use std::io;
 use std::io::Stdout;
 use text::{number, say, yes};
@@ -12,66 +12,52 @@ use text::{number, say, yes};
 // A kill time of 500: expired, by a connection's timer, and popped, by the kill queue.
 pub fn reading_i(stdout: &mut Stdout) -> io::Result<()> {
     say(stdout, b"i expired at 499")?;
-    yes(stdout, connection::has_expired(timed(500), 499).holds)?;
+    yes(stdout, has_expired(499))?;
     say(stdout, b", at 500")?;
-    yes(stdout, connection::has_expired(timed(500), 500).holds)?;
-    let made = MuxerKillQ::new(2);
-    let queue = made.queue;
-    let pushed = queue.push(
-        ConnMapKey {
-            local_port: 1024,
-            peer_port: 5000,
-        },
-        500,
-    );
-    let waiting = pushed.queue;
+    yes(stdout, has_expired(500))?;
+    let key = ConnMapKey {
+        local_port: 1024,
+        peer_port: 5000,
+    };
+    let waiting = MuxerKillQ::new(2).queue.push(key, 500).queue;
     say(stdout, b"; popped at 500")?;
-    yes(stdout, waiting.pop(500).found)?;
+    yes(stdout, is_popped(waiting, 500))?;
     say(stdout, b", at 501")?;
-    yes(stdout, waiting.pop(501).found)?;
+    yes(stdout, is_popped(waiting, 501))?;
     say(stdout, b"\n")
+}
+
+fn has_expired(now_ms: u64) -> bool {
+    connection::has_expired(timed(500), now_ms).unwrap_or(false)
+}
+
+fn is_popped(queue: MuxerKillQ, clock: u64) -> bool {
+    queue.pop(clock).given.unwrap_or(None).is_some()
 }
 
 // An established connection with a timer.
 fn timed(time: u64) -> VsockConnection {
-    let c = established(100);
-    let settings = c.settings;
-    let tx_buf = c.tx_buf;
-    let pending_rx = c.pending_rx;
     VsockConnection {
-        settings,
         state: ConnState::Established,
-        local_cid: c.local_cid,
-        peer_cid: c.peer_cid,
-        local_port: c.local_port,
-        peer_port: c.peer_port,
-        tx_buf,
-        fwd_cnt: c.fwd_cnt,
-        peer_buf_alloc: c.peer_buf_alloc,
-        peer_fwd_cnt: c.peer_fwd_cnt,
-        rx_cnt: c.rx_cnt,
-        last_fwd_cnt_to_peer: c.last_fwd_cnt_to_peer,
-        pending_rx,
-        expiry: Timer::At(time),
+        expiry: Some(time),
+        ..established(100)
     }
 }
 
 // Q = 2, [C1 C2]: RSTs r and s, a third; then a pop and one more.
 pub fn reading_j(stdout: &mut Stdout) -> io::Result<()> {
     say(stdout, b"j")?;
-    let made = MuxerRxQ::new(2);
-    let queue = made.queue;
-    let a = queued(stdout, queue, false, 1)?;
+    let empty = MuxerRxQ::new(2).queue;
+    let a = queued(stdout, empty, false, 1)?;
     let b = queued(stdout, a, false, 2)?;
     let c = queued(stdout, b, true, 8)?;
     let d = queued(stdout, c, true, 9)?;
     let e = queued(stdout, d, true, 10)?;
-    let popped = e.pop();
-    let f = popped.queue;
+    let f = e.pop().queue;
     say(stdout, b" pop;")?;
     let g = queued(stdout, f, true, 10)?;
     say(stdout, b" full")?;
-    yes(stdout, g.is_full().holds)?;
+    yes(stdout, g.is_full().unwrap_or(false))?;
     say(stdout, b"\n")
 }
 
@@ -87,23 +73,15 @@ fn queued(
         local_port,
         peer_port: 1,
     });
-    let answer = pushed.answer;
-    let next = pushed.queue;
-    let first = next.q[0];
-    let second = next.q[1];
-    number(stdout, defs::number_of(answer) as u64)?;
+    number(stdout, defs::number_of(pushed.answer) as u64)?;
     say(stdout, b" [")?;
-    say_item(stdout, first)?;
-    say_item(stdout, second)?;
+    say_item(stdout, pushed.queue.q[0])?;
+    say_item(stdout, pushed.queue.q[1])?;
     say(stdout, b" ];")?;
-    Ok(next)
+    Ok(pushed.queue)
 }
 
 fn say_item(stdout: &mut Stdout, item: MuxerRx) -> io::Result<()> {
-    if item.rst {
-        say(stdout, b" r")?;
-    } else {
-        say(stdout, b" C")?;
-    }
+    say(stdout, if item.rst { b" r" } else { b" C" })?;
     text::digits(stdout, item.local_port as u64)
 }

@@ -6,15 +6,12 @@ ghost use Rattle.text.specs.Part.{FittingSays};
 pub fn fitting(bytes: usize, room: &[u8]) -> usize
     ensures { FittingSays bytes room.now result }
 {
-    defs::smaller(bytes, room.len())
+    bytes.min(room.len())
 }
 
 // No more of the bytes than there are.
 pub fn front(bytes: &[u8], n: usize) -> &[u8]
     ensures { result.now ≡ take n bytes.now }
 {
-    if n < bytes.len() {
-        return &bytes[..n];
-    }
-    bytes
+    bytes.get(..n).unwrap_or(bytes)
 }

@@ -1,5 +1,5 @@
 // Words, numbers and bytes on a writer: on standard output, where a program hands it that.
-ghost use Rattle.std.specs.Prelude.{◌++◌, ◌∷◌, []};
+ghost use Rattle.std.specs.Prelude.{◌++◌};
 ghost use Rattle.std.specs.Fmt.{decimal};
 ghost use Rattle.text.specs.Hex.{hex_of};
 ghost use Rattle.text.specs.Print.{WriteSays, number_text, yes_text};
@@ -7,6 +7,7 @@ ghost use Rattle.text.specs.Print.{WriteSays, number_text, yes_text};
 use std::io;
 use std::io::Write;
 
+// Words are bytes, also in `named`: a `&str` would ask more of callers.
 pub fn say<W: Write>(out: &mut W, words: &[u8]) -> io::Result<()>
     ensures { WriteSays words.now (W.contents out.old) (W.contents out.new) result }
 {
@@ -24,8 +25,7 @@ pub fn digits<W: Write>(out: &mut W, n: u64) -> io::Result<()>
 pub fn number<W: Write>(out: &mut W, n: u64) -> io::Result<()>
     ensures { WriteSays (number_text n) (W.contents out.old) (W.contents out.new) result }
 {
-    say(out, b" ")?;
-    digits(out, n)
+    write!(out, " {n}")
 }
 
 pub fn named<W: Write>(out: &mut W, name: &[u8], n: u64) -> io::Result<()>
@@ -38,30 +38,16 @@ pub fn named<W: Write>(out: &mut W, name: &[u8], n: u64) -> io::Result<()>
 pub fn yes<W: Write>(out: &mut W, holds: bool) -> io::Result<()>
     ensures { WriteSays (yes_text holds) (W.contents out.old) (W.contents out.new) result }
 {
-    if holds {
-        say(out, b" yes")
-    } else {
-        say(out, b" no")
-    }
+    let word = if holds { "yes" } else { "no" };
+    write!(out, " {word}")
 }
 
 // Two digits for each byte.
 pub fn bytes<W: Write>(out: &mut W, shown: &[u8]) -> io::Result<()>
     ensures { WriteSays (hex_of shown.now) (W.contents out.old) (W.contents out.new) result }
 {
-    let mut i = 0;
-    while i < shown.len() {
-        byte(out, shown[i])?;
-        i += 1;
+    for byte in shown {
+        write!(out, "{byte:02x}")?;
     }
     Ok(())
-}
-
-fn byte<W: Write>(out: &mut W, b: u8) -> io::Result<()>
-    ensures { WriteSays (hex_of (b ∷ [])) (W.contents out.old) (W.contents out.new) result }
-{
-    let one = [b];
-    let mut digits = [0u8; 2];
-    crate::hex(&one, &mut digits);
-    say(out, &digits)
 }

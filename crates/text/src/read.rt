@@ -5,6 +5,7 @@ use std::io;
 use std::io::Read;
 
 // Reads until the room is full or the input ends, and says how many bytes stand at its front.
+// A loop of its own, since std's `read_exact` fails where the input ends early.
 pub fn fill<R: Read>(input: &mut R, room: &mut [u8]) -> io::Result<usize>
     ensures { FillSays room.old room.new (R.remaining input.old) (R.remaining input.new) result }
 {

@@ -1,4 +1,5 @@
 -- Each call on a ring answers by 01's rows, and changes nothing where it is not done. Assumes nothing.
+use Rattle.std.specs.Prelude.{Err}
 use Prim.Native.Nat.{ℕ, ◌+◌, ◌-◌, ◌<◌, ◌≤◌}
 use mathlib.Core.Path.{◌≡◌, refl, sym, ap, ◌∙◌}
 use mathlib.Core.Logic.{⊎_elim}
@@ -10,14 +11,13 @@ use lib.Dec.{ltb, eqb}
 use lib.ListN.{length}
 use borrow.Author.Tests.{lt-ltb, le-ltb, ltb-false, eq-eqb, ne_eqb, not-false}
 use Rattle.defs.specs.Choice.{when}
-use Rattle.defs.specs.Answer.{Told, told, is_done, when_done}
+use Rattle.defs.specs.Answer.{Told, Answer, told, done, is_done, when_done}
 use Rattle.defs.specs.Ladder.{door_of, late_of, lowest_of, record_answer}
 use Rattle.defs.specs.Limits.{max_packet, is_ring_size, is_packet_length}
 use Rattle.defs.specs.Look.{LenLeft, len_of, FlagLeft, flag_of}
 use Rattle.defs.specs.Promises.{Exactly, AnswersInTurn, Refuses}
 use Rattle.defs.specs.Stream.{counted, failed, stopped_by, stops}
-use Rattle.defs.specs.declared.answer.Answer.{Answer}
-use Rattle.defs.specs.declared.answer.Answer.TheVariants.{Done, TxBufFull}
+use Rattle.defs.specs.declared.answer.Refusal.TheVariants.{TxBufFull}
 use Rattle.defs.specs.declared.stream.StreamAnswer.{StreamAnswer}
 use Rattle.defs.specs.declared.stream.StreamAnswer.TheVariants.{Count, WouldBlock, Failed}
 use Rattle.defs.specs.declared.stream.StreamAnswers.{StreamAnswers}
@@ -38,17 +38,17 @@ use Rattle.txbuf.proofs.RecordLaws.{sound_means, Fit, sound_says, next_length}
 
 -- ---- push
 
-full_number : (full : Bool) → (told (when full TxBufFull Done)).number ≡ first_in_turn ((9, full) ∷ [])
+full_number : (full : Bool) → (told (when full (Err TxBufFull) done)).number ≡ first_in_turn ((9, full) ∷ [])
 unfolding when
 full_number true = refl
 full_number false = refl
 
-push_ladder : (r l full : Bool) → (told (lowest_of (door_of r false false l) (when full TxBufFull Done))).number
+push_ladder : (r l full : Bool) → (told (lowest_of (door_of r false false l) (when full (Err TxBufFull) done))).number
     ≡ first_in_turn ((1, r) ∷ (4, l) ∷ (9, full) ∷ [])
 unfolding late_of when
 push_ladder r l full =
-    ap (λ (x : Answer). (told (lowest_of x (when full TxBufFull Done))).number) (sym (lowest_end (door_of r false false l)))
-    ∙ ladder_then r false false l false false (when full TxBufFull Done) ((9, full) ∷ []) (full_number full)
+    ap (λ (x : Answer). (told (lowest_of x (when full (Err TxBufFull) done))).number) (sym (lowest_end (door_of r false false l)))
+    ∙ ladder_then r false false l false false (when full (Err TxBufFull) done) ((9, full) ∷ []) (full_number full)
 
 pub push_told : (i : PushIn) → (push_of i).answer ≡ told (push_answer_of i)
 unfolding push_of push_done push_kept
@@ -91,12 +91,12 @@ pub record Ready (b : TxBuf) (storage bytes : ℕ) : Type 0 where
   pub short : bytes ≤ max_packet
   pub room : used_of b + bytes ≤ storage
 
-full_not : (t : Bool) → when t TxBufFull Done ≡ Done → t ≡ false
+full_not : (t : Bool) → when t (Err TxBufFull) done ≡ done → t ≡ false
 unfolding when
 full_not true e = let z : ◌≡◌ {A = ℕ} 9 0 = ap (λ (a : Answer). (told a).number) e in absurd (omega arith)
 full_not false e = refl
 
-pub ready : (b : TxBuf) (storage bytes : ℕ) → push_answer b storage bytes ≡ Done → Ready b storage bytes
+pub ready : (b : TxBuf) (storage bytes : ℕ) → push_answer b storage bytes ≡ done → Ready b storage bytes
 unfolding push_answer
 ready b storage bytes e =
     let u = lowest_passed _ _ e in
@@ -166,12 +166,12 @@ over_is i s =
     ap (λ (x : ℕ). not (eqb n 0) && (ltb p k || eqb k p && (not (eqb (n - p) 0) && (ltb x l || eqb l x && false)))) q
     ∙ rw (none_is n, none_is (n - p)) (over_by_lem (ltb 0 n) (ltb p k) (eqb k p) (ltb 0 (n - p)) (ltb (n - p) l) (eqb l (n - p)) (left_none n p))
 
-end_by : (some : Bool) (a : StreamAnswer) → (told (when (not some) Done (stopped_by a))).number ≡ first_in_turn ((10, some && stops a) ∷ [])
+end_by : (some : Bool) (a : StreamAnswer) → (told (when (not some) done (stopped_by a))).number ≡ first_in_turn ((10, some && stops a) ∷ [])
 unfolding when
 end_by true a = stop_number a
 end_by false a = refl
 
-end_number : (n : ℕ) (a : StreamAnswer) → (told (when (eqb n 0) Done (stopped_by a))).number ≡ first_in_turn ((10, ltb 0 n && stops a) ∷ [])
+end_number : (n : ℕ) (a : StreamAnswer) → (told (when (eqb n 0) done (stopped_by a))).number ≡ first_in_turn ((10, ltb 0 n && stops a) ∷ [])
 end_number n a = rw (none_is n) (end_by (ltb 0 n) a)
 
 pub flush_told : (i : FlushIn) → (flush_of i).answer ≡ told (flush_answer i)
@@ -190,7 +190,7 @@ flush_answers i left says =
     ∷ row 10 (and_means (below_means 0 (used_of b)) (as_is (stops i.answers.first))) ∷ [])
     (ap (λ (o : FlushLeft). o.answer.number) says ∙ ap (λ (t : Told). t.number) (flush_told i)
     ∙ ladder_then (not sound) false false false (flush_over i) (ltb (length i.out) (flush_count i))
-    (when (eqb (used_of b) 0) Done (stopped_by i.answers.first))
+    (when (eqb (used_of b) 0) done (stopped_by i.answers.first))
     ((10, blocked) ∷ [])
     (end_number (used_of b) i.answers.first)
     ∙ exchange 1 (not sound) _ _ (λ s.
@@ -198,17 +198,17 @@ flush_answers i left says =
     ∙ ap (λ (n : ℕ). first_in_turn ((5, too_much b i.answers) ∷ (6, ltb (length i.out) n) ∷ (10, blocked) ∷ [])) (count_is i)))
 
 -- what an answer that is Done says
-pub sound_done : (i : FlushIn) → flush_answer i ≡ Done → Fit i.ring (length i.store)
+pub sound_done : (i : FlushIn) → flush_answer i ≡ done → Fit i.ring (length i.store)
 unfolding flush_answer record_answer
 sound_done i d =
     let r = (lowest_passed _ _ (lowest_passed _ _ d).0).0 in
     sound_says _ _ (not-false _ (door_passed _ _ _ _ r).record_ok)
 
-pub not_over : (i : FlushIn) → flush_answer i ≡ Done → flush_over i ≡ false
+pub not_over : (i : FlushIn) → flush_answer i ≡ done → flush_over i ≡ false
 unfolding flush_answer
 not_over i d = (late_passed _ _ (lowest_passed _ _ (lowest_passed _ _ d).0).1).answer_ok
 
-pub room_left : (i : FlushIn) → flush_answer i ≡ Done → flush_count i ≤ length i.out
+pub room_left : (i : FlushIn) → flush_answer i ≡ done → flush_count i ≤ length i.out
 unfolding flush_answer
 room_left i d = ltb-false _ _ (late_passed _ _ (lowest_passed _ _ (lowest_passed _ _ d).0).1).room_ok
 
@@ -264,9 +264,9 @@ refusals_change_nothing = record {
 
 -- number 10 comes of the first write's answer alone
 ten_tells : (sound over small none : Bool) (a : StreamAnswer)
-    → (told (lowest_of (lowest_of (record_answer sound) (late_of over small)) (when none Done (stopped_by a)))).number ≡ 10
-    → (told (lowest_of (lowest_of (record_answer sound) (late_of over small)) (when none Done (stopped_by a)))).failed ≡ failed a
-unfolding lowest_of record_answer door_of late_of when_done is_done when
+    → (told (lowest_of (lowest_of (record_answer sound) (late_of over small)) (when none done (stopped_by a)))).number ≡ 10
+    → (told (lowest_of (lowest_of (record_answer sound) (late_of over small)) (when none done (stopped_by a)))).failed ≡ failed a
+unfolding lowest_of record_answer door_of late_of when_done when
 ten_tells false over small none a e = let z : ◌≡◌ {A = ℕ} 1 10 = e in absurd (omega arith)
 ten_tells true true small none a e = let z : ◌≡◌ {A = ℕ} 5 10 = e in absurd (omega arith)
 ten_tells true false true none a e = let z : ◌≡◌ {A = ℕ} 6 10 = e in absurd (omega arith)

@@ -9,12 +9,10 @@ use lib.ListN.{length, get_or, take, drop, length-append, length-drop, get_or-ap
 use lib.Seq.{get_or-take, drop_at, length-take-le}
 use borrow.Author.Tests.{ltb-false, le-ltb}
 use Rattle.defs.specs.Choice.{when}
-use Rattle.defs.specs.Answer.{Told, told, is_done, when_done}
+use Rattle.defs.specs.Answer.{Told, Answer, told, done, when_done}
 use Rattle.defs.specs.Ladder.{door_of, late_of, lowest_of, record_answer}
 use Rattle.defs.specs.Limits.{is_ring_size}
 use Rattle.defs.specs.Stream.{counted}
-use Rattle.defs.specs.declared.answer.Answer.{Answer}
-use Rattle.defs.specs.declared.answer.Answer.TheVariants.{Done}
 use Rattle.defs.specs.declared.stream.StreamAnswers.{StreamAnswers}
 use Rattle.defs.proofs.LookLaws.{flag_done, len_done}
 use Rattle.defs.proofs.Basics.{neither, and_false}
@@ -38,15 +36,15 @@ module _ (i : PushIn) (o : PushLeft) (wide : Wide i.ring) (says : o ≡ push_of 
   abbrev ring : TxBuf
   ring = i.ring
 
-  done : push_answer_of i ≡ Done
-  done = number_zero _ (ap (λ (t : Told). t.number) (sym (push_told i)) ∙ ap (λ (x : PushLeft). x.answer.number) (sym says) ∙ n)
+  pushed : push_answer_of i ≡ done
+  pushed = number_zero _ (ap (λ (t : Told). t.number) (sym (push_told i)) ∙ ap (λ (x : PushLeft). x.answer.number) (sym says) ∙ n)
 
   left : o ≡ push_done i
   unfolding push_of
-  left = says ∙ when_done_lem (push_answer_of i) _ _ done
+  left = says ∙ when_done_lem (push_answer_of i) _ _ pushed
 
   fit : Ready ring (length i.store) (length i.src)
-  fit = ready _ _ _ done
+  fit = ready _ _ _ pushed
 
   sound : SoundOver ring (length i.store)
   sound = (sound_means.over ring _).0 (is_sound_lem ring _ fit.sound)
@@ -100,7 +98,7 @@ counted_within b a e =
     omega arith
 
 module _ (i : FlushIn) (o : FlushLeft) (wide : Wide i.ring) (says : o ≡ flush_of i) (n : o.answer.number ≡ 0) where
-  flushed : flush_answer i ≡ Done
+  flushed : flush_answer i ≡ done
   flushed = number_zero _ (ap (λ (t : Told). t.number) (sym (flush_told i)) ∙ ap (λ (x : FlushLeft). x.answer.number) (sym says) ∙ n)
 
   rest : o ≡ flush_done i
@@ -192,7 +190,7 @@ same_left i a e f = rw (e, f)
 
 answer_by : (sound : Bool) (late other end ending : Answer) → (sound ≡ true → (late ≡ other) × (end ≡ ending))
     → lowest_of (lowest_of (record_answer sound) late) end ≡ lowest_of (lowest_of (record_answer sound) other) ending
-unfolding lowest_of record_answer door_of when_done is_done when
+unfolding lowest_of record_answer door_of when_done when
 answer_by true late other end ending e = rw ((e refl).0, (e refl).1)
 answer_by false late other end ending e = refl
 

@@ -1,7 +1,9 @@
 -- Laws of `flush_to`: the first piece, what the stream takes, and each end of a call. Assumes nothing.
+use Rattle.std.specs.Prelude.{Result, Ok, Err}
+use Rattle.std.specs.Result.{result_and}
 use Prim.Native.Nat.{ℕ, suc, ◌+◌, ◌-◌, ◌%◌, ◌^◌, ◌<◌, ◌≤◌, min, zero-le}
 use mathlib.Core.Path.{◌≡◌, refl, sym, ap, ◌∙◌}
-use mathlib.Core.Logic.{⊎_elim}
+use mathlib.Core.Logic.{◌⊎◌, ⊎_elim}
 use mathlib.Core.Bool.{Bool, true, false, not, ◌&&◌, ◌||◌}
 use mathlib.Core.List.{List, [], ◌∷◌, ◌++◌, append_assoc, append-nil}
 use native.Mathlib.Omega.{arith}
@@ -11,26 +13,26 @@ use lib.ListN.{length, take, drop, length-take, length-drop, length-append, take
 use lib.Seq.{take_all, take-take, take-add, drop-drop, drop_at, length-take-le}
 use borrow.Author.Tests.{lt-ltb, le-ltb, ltb-false, eq-eqb, ne_eqb}
 use Rattle.defs.specs.Choice.{when}
-use Rattle.defs.specs.Answer.{told, is_done}
+use Rattle.defs.specs.Answer.{Answer, told, done, is_done, when_done, answer_of}
 use Rattle.defs.specs.Limits.{max_ring}
 use Rattle.defs.specs.Stream.{counted, stopped_by}
 use Rattle.defs.specs.Ladder.{door_of, late_of, lowest_of, record_answer}
 use Rattle.defs.specs.Wrapping.{wadd}
 use Rattle.defs.specs.Copying.{copied}
-use Rattle.defs.specs.declared.answer.Answer.{Answer}
-use Rattle.defs.specs.declared.answer.Answer.TheVariants.{Done, BadRecord, BadHeader, BadClock, BadLength, BadAnswer, NoRoom, NoData, PktBufMissing, TxBufFull, StreamBlocked, StreamFailed, NotQueued}
+use Rattle.defs.specs.declared.answer.Refusal.{Refusal}
+use Rattle.defs.specs.declared.answer.Refusal.TheVariants.{BadRecord, BadHeader, BadClock, BadLength, BadAnswer, NoRoom, NoData, PktBufMissing, TxBufFull, StreamBlocked, StreamFailed, NotQueued}
 use Rattle.defs.specs.declared.stream.StreamAnswer.{StreamAnswer}
 use Rattle.defs.specs.declared.stream.StreamAnswer.TheVariants.{Count, WouldBlock, Failed}
 use Rattle.defs.proofs.StreamLaws.{NotCount, takes_none, not_count_stops, stopped_takes_none}
 use Rattle.defs.proofs.Basics.{never, lt_or_ge, true_or_false, neither, and_false}
 use Rattle.defs.proofs.ChoiceLaws.{when_true, when_false, when_same}
-use Rattle.defs.proofs.AnswerLaws.{NotDone, not_done, is_done_lem, done_is_done, when_done_lem, when_not_done, told_tells_apart}
+use Rattle.defs.proofs.AnswerLaws.{is_done_lem, done_is_done, when_done_lem, when_not_done, told_tells_apart}
 use Rattle.defs.proofs.LadderLaws.{late_passed, lowest_done, lowest_refused, lowest_end}
 use Rattle.defs.proofs.CopyLaws.{copied_fits}
 use Rattle.defs.proofs.WrappingLaws.{keeps_place}
 use Rattle.txbuf.specs.Record.{Wide, used_of, sound_of, held_from, held}
 use Rattle.txbuf.specs.Means.{SoundOver}
-use Rattle.txbuf.specs.Flush.{piece_len, first_piece, taken_by, over_by, ends_by, FlushIn, FlushLeft, in_turn, flush_count, flush_over, flush_answer, advanced, second_piece, flush_done, flush_kept, flush_of, FlushSays, finish_answer, finish_of}
+use Rattle.txbuf.specs.Flush.{piece_len, first_piece, taken_by, over_by, ends_by, FlushIn, FlushLeft, in_turn, flush_count, flush_over, flush_answer, flushed_or, flush_seen, advanced, second_piece, flush_done, flush_kept, flush_of, FlushSays, finish_answer, finish_of}
 use Rattle.txbuf.specs.Promises.{TakesOldest, FlushTakesOldest, FlushProgresses, FirstPieceIsOldest, UnsoundHasNoPiece, PiecesAreHeld}
 use Rattle.txbuf.specs.declared.record.TxBuf.{TxBuf}
 use Rattle.txbuf.specs.declared.flush.Flushed.{Flushed}
@@ -168,17 +170,17 @@ flush_refused i a e n =
     ap (λ (x : Answer). record { answer = told x; count = 0; ring = i.ring; out = i.out }) (sym e)
     ∙ sym (when_not_done (flush_answer i) _ _ (ap is_done e ∙ n))
 
-pub flush_is_done : (i : FlushIn) → flush_answer i ≡ Done → flush_of i ≡ flush_done i
+pub flush_is_done : (i : FlushIn) → flush_answer i ≡ done → flush_of i ≡ flush_done i
 unfolding flush_of
 flush_is_done i d = when_done_lem (flush_answer i) _ _ d
 
 -- answer 1
 pub flush_unsound : (i : FlushIn) → sound_of i.ring (length i.store) ≡ false
-    → ◌≡◌ {A = FlushLeft} (record { answer = told BadRecord; count = 0; ring = i.ring; out = i.out }) (flush_of i)
-unfolding flush_answer record_answer door_of when is_done
+    → ◌≡◌ {A = FlushLeft} (record { answer = told (Err BadRecord); count = 0; ring = i.ring; out = i.out }) (flush_of i)
+unfolding flush_answer record_answer door_of when
 flush_unsound i e =
-    flush_refused i BadRecord
-    (rw e (ap (λ (a : Answer). lowest_of a (ends_by (used_of i.ring) i.answers.first)) (lowest_refused BadRecord _ refl) ∙ lowest_refused BadRecord _ refl))
+    flush_refused i (Err BadRecord)
+    (rw e (ap (λ (a : Answer). lowest_of a (ends_by (used_of i.ring) i.answers.first)) (lowest_refused (Err BadRecord) _ refl) ∙ lowest_refused (Err BadRecord) _ refl))
     refl
 
 -- a sound ring: 5, 6, then how it ends
@@ -187,19 +189,19 @@ pub sound_answer : (i : FlushIn) → sound_of i.ring (length i.store) ≡ true
 unfolding flush_answer record_answer door_of when
 sound_answer i e = rw e (ap (λ (a : Answer). lowest_of a (ends_by (used_of i.ring) i.answers.first)) (lowest_done _))
 
-late_none : late_of false false ≡ Done
+late_none : late_of false false ≡ done
 unfolding late_of when
 late_none = refl
 
-late_over : (n : Bool) → late_of true n ≡ BadAnswer
+late_over : (n : Bool) → late_of true n ≡ Err BadAnswer
 unfolding late_of when
 late_over n = refl
 
-late_room : late_of false true ≡ NoRoom
+late_room : late_of false true ≡ Err NoRoom
 unfolding late_of when
 late_room = refl
 
-ends_none : (n : ℕ) (a : StreamAnswer) → n ≡ 0 → ends_by n a ≡ Done
+ends_none : (n : ℕ) (a : StreamAnswer) → n ≡ 0 → ends_by n a ≡ done
 unfolding ends_by
 ends_none n a e = when_true _ _ _ (eq-eqb n 0 e)
 
@@ -213,7 +215,7 @@ ends_some n a l = when_false _ _ _ (not_none n l)
 -- what a flush that is done leaves, at the count c
 abbrev done_at : FlushIn → ℕ → FlushLeft
 done_at i c = record {
-  answer = told Done;
+  answer = told done;
   count = c;
   ring = advanced i.ring c;
   out = take c (held i.ring i.store) ++ drop c i.out;
@@ -225,18 +227,18 @@ done_at_lem i c e = ap (done_at i) e
 
 -- a flush that is finished behind a piece: by its answer
 finish_is : (i : FlushIn) (piece : List ℕ) (number count : ℕ) (O : List ℕ) → finish_answer number (length piece) (length O) ≡ flush_answer i
-    → (flush_answer i ≡ Done → (length piece + count ≡ flush_count i) × (copied O piece ≡ take (flush_count i) (held i.ring i.store) ++ drop (flush_count i) i.out))
+    → (flush_answer i ≡ done → (length piece + count ≡ flush_count i) × (copied O piece ≡ take (flush_count i) (held i.ring i.store) ++ drop (flush_count i) i.out))
     → (is_done (flush_answer i) ≡ false → O ≡ i.out)
     → finish_of i.ring piece number count O ≡ flush_of i
 unfolding finish_of
-finish_is i piece number count O e done kept =
+finish_is i piece number count O e ends kept =
     ⊎_elim
     (λ (t : is_done (flush_answer i) ≡ true).
     let d = is_done_lem (flush_answer i) t in
-    let f = done d in
+    let f = ends d in
     when_done_lem _ _ _ (e ∙ d)
-    ∙ ap (λ (c : ℕ). record { answer = told Done; count = c; ring = advanced i.ring c; out = copied O piece }) f.0
-    ∙ ap (λ (x : List ℕ). record { answer = told Done; count = flush_count i; ring = advanced i.ring (flush_count i); out = x }) f.1
+    ∙ ap (λ (c : ℕ). record { answer = told done; count = c; ring = advanced i.ring c; out = copied O piece }) f.0
+    ∙ ap (λ (x : List ℕ). record { answer = told done; count = flush_count i; ring = advanced i.ring (flush_count i); out = x }) f.1
     ∙ sym (done_at_lem i (flush_count i) refl)
     ∙ sym (flush_is_done i d))
     (λ (t : is_done (flush_answer i) ≡ false).
@@ -257,7 +259,7 @@ pub record RestLeft (i : FlushIn) (r : FlushLeft) : Type 0 where
   pub out : r.out ≡ take (flush_count i) (held i.ring i.store) ++ drop (flush_count i) i.out
 
 stopped_number : (b : Bool) (y : StreamAnswer)
-    → (eqb (told (when b Done (stopped_by y))).number 5 ≡ false) × (eqb (told (when b Done (stopped_by y))).number 6 ≡ false)
+    → (eqb (told (when b done (stopped_by y))).number 5 ≡ false) × (eqb (told (when b done (stopped_by y))).number 6 ≡ false)
 unfolding when
 stopped_number true y = (refl, refl)
 stopped_number false (Count n) = (refl, refl)
@@ -273,7 +275,7 @@ ends_stopped : (m : ℕ) (y : StreamAnswer) → is_done (ends_by m y) ≡ false 
 unfolding ends_by when
 ends_stopped m y e = go (eqb m 0) e
   where
-    go : (b : Bool) → is_done (when b Done (stopped_by y)) ≡ false → counted y ≡ 0
+    go : (b : Bool) → is_done (when b done (stopped_by y)) ≡ false → counted y ≡ 0
     go true f = absurd (never (sym f ∙ done_is_done))
     go false f = stopped_takes_none y f
 
@@ -291,51 +293,66 @@ no_room room n e =
     (λ (l : n ≤ room). absurd (never (sym e ∙ ap (λ (b : Bool). is_done (late_of false b)) (le-ltb room n l) ∙ ap is_done late_none ∙ done_is_done)))
     (lt_or_ge room n)
 
--- ---- `finish`, as the code has it
+-- ---- `finish`, as the code has it: by the rest's answer, then by the room
 
-module _ (rest : Answer) (bytes room : ℕ) (a : Answer) where
-  pub finish_over : rest ≡ BadAnswer → a ≡ late_of true (ltb room bytes) → a ≡ finish_answer (told rest).number bytes room
+-- a rest that does not refuse the whole flush, and how many bytes it took
+pub record Passed (rest : Result Flushed Refusal) (more : ℕ) : Type 0 where
+  pub not_bad : rest ≡ Err BadAnswer → ⊥
+  pub not_room : rest ≡ Err NoRoom → ⊥
+  pub count : (b : TxBuf) → more ≡ (flushed_or b rest).count
+
+pub passed_done : (rest : Result Flushed Refusal) (f : Flushed) (more : ℕ) → rest ≡ Ok f → more ≡ f.count → Passed rest more
+passed_done rest f more e c = record { not_bad = λ k. cc; not_room = λ k. cc; count = λ b. c ∙ rw e refl }
+
+pub passed_stopped : (rest : Result Flushed Refusal) (r : Refusal) (more : ℕ) → rest ≡ Err r → (r ≡ BadAnswer → ⊥) → (r ≡ NoRoom → ⊥) → more ≡ 0 → Passed rest more
+passed_stopped rest r more e k l c = record { not_bad = λ u. k cc; not_room = λ u. l cc; count = λ b. c ∙ rw e refl }
+
+module _ (b : TxBuf) (piece out : List ℕ) (rest : Result Flushed Refusal) where
+  abbrev finished : FlushLeft
+  finished = finish_of b piece (told (answer_of rest)).number (flushed_or b rest).count out
+
+  finish_refused : (r : Refusal) → finish_answer (told (answer_of rest)).number (length piece) (length out) ≡ Err r → flush_seen b (Err r) out ≡ finished
+  unfolding finish_of when_done when
+  finish_refused r e = rw e refl
+
+  pub finish_forbidden : (r : Refusal) → rest ≡ Err r → (r ≡ BadAnswer) ⊎ (r ≡ NoRoom) → flush_seen b (Err r) out ≡ finished
   unfolding finish_answer
-  finish_over d e = e ∙ ap (λ (x : Answer). finish_answer (told x).number bytes room) (sym d)
+  finish_forbidden r d =
+      ⊎_elim (λ (e : r ≡ BadAnswer). finish_refused r (rw (d, e) (late_over _))) (λ (e : r ≡ NoRoom). finish_refused r (rw (d, e) late_room))
 
-  pub finish_short : rest ≡ NoRoom → a ≡ late_of false true → a ≡ finish_answer (told rest).number bytes room
-  unfolding finish_answer
-  finish_short d e = e ∙ ap (λ (x : Answer). finish_answer (told x).number bytes room) (sym d)
+  module _ (more : ℕ) (p : Passed rest more) where
+    by_room : finish_answer (told (answer_of rest)).number (length piece) (length out) ≡ late_of false (ltb (length out) (length piece))
+    unfolding finish_answer
+    by_room = by rest p.not_bad p.not_room
+      where
+        by : (x : Result Flushed Refusal) → (x ≡ Err BadAnswer → ⊥) → (x ≡ Err NoRoom → ⊥)
+            → finish_answer (told (answer_of x)).number (length piece) (length out) ≡ late_of false (ltb (length out) (length piece))
+        by (Ok f) k l = refl
+        by (Err BadRecord) k l = refl
+        by (Err BadHeader) k l = refl
+        by (Err BadClock) k l = refl
+        by (Err BadLength) k l = refl
+        by (Err BadAnswer) k l = absurd (k refl)
+        by (Err NoRoom) k l = absurd (l refl)
+        by (Err NoData) k l = refl
+        by (Err PktBufMissing) k l = refl
+        by (Err TxBufFull) k l = refl
+        by (Err StreamBlocked) k l = refl
+        by (Err StreamFailed) k l = refl
+        by (Err NotQueued) k l = refl
 
-  -- the other answers of a rest do not refuse the whole
-  pub finish_other : (rest ≡ BadAnswer → ⊥) → (rest ≡ NoRoom → ⊥) → a ≡ late_of false (ltb room bytes) → a ≡ finish_answer (told rest).number bytes room
-  unfolding finish_answer
-  finish_other k l e = e ∙ by rest k l
-    where
-      by : (x : Answer) → (x ≡ BadAnswer → ⊥) → (x ≡ NoRoom → ⊥) → late_of false (ltb room bytes) ≡ finish_answer (told x).number bytes room
-      by Done k l = refl
-      by BadRecord k l = refl
-      by BadHeader k l = refl
-      by BadClock k l = refl
-      by BadLength k l = refl
-      by BadAnswer k l = absurd (k refl)
-      by NoRoom k l = absurd (l refl)
-      by NoData k l = refl
-      by PktBufMissing k l = refl
-      by TxBufFull k l = refl
-      by StreamBlocked k l = refl
-      by StreamFailed k l = refl
-      by NotQueued k l = refl
+    pub finish_none : length out < length piece → flush_seen b (Err NoRoom) out ≡ finished
+    finish_none m = finish_refused NoRoom (by_room ∙ rw (lt-ltb _ _ m) late_room)
 
-pub finish_kept : (b : TxBuf) (piece out : List ℕ) (number count : ℕ) (a : Answer) (r : Flushed)
-    → a ≡ finish_answer number (length piece) (length out) → NotDone a → r ≡ record { answer = a; count = 0; ring = b }
-    → ◌≡◌ {A = FlushLeft} (record { answer = told r.answer; count = r.count; ring = r.ring; out = out }) (finish_of b piece number count out)
-unfolding finish_of
-finish_kept b piece out number count a r h k g =
-    ap (λ (x : Flushed). record { answer = told x.answer; count = x.count; ring = x.ring; out = out }) g
-    ∙ ap (λ (x : Answer). record { answer = told x; count = 0; ring = b; out = out }) h
-    ∙ sym (when_not_done _ _ _ (ap is_done (sym h) ∙ not_done a k))
+    pub finish_done : (r : TxBuf) (x : List ℕ) → length piece ≤ length out → r ≡ advanced b (length piece + more) → x ≡ copied out piece
+        → flush_seen b (Ok (record { count = length piece + more; ring = r })) x ≡ finished
+    unfolding finish_of
+    finish_done r x m d h = rw (d, h, p.count b) (sym (when_done_lem _ _ _ (by_room ∙ rw (le-ltb _ _ m) late_none)))
 
-pub finish_done : (b r : TxBuf) (piece out x : List ℕ) (number count : ℕ) (a : Answer)
-    → a ≡ finish_answer number (length piece) (length out) → a ≡ Done → r ≡ advanced b (length piece + count) → x ≡ copied out piece
-    → ◌≡◌ {A = FlushLeft} (record { answer = told a; count = length piece + count; ring = r; out = x }) (finish_of b piece number count out)
-unfolding finish_of
-finish_done b r piece out x number count a e d g h = rw (d, g, h) (sym (when_done_lem _ _ _ (sym e ∙ d)))
+-- what a result counts doesn't go by the ring that stays where it is refused
+count_alike : (b c : TxBuf) (r : Result Flushed Refusal) → (flushed_or b r).count ≡ (flushed_or c r).count
+count_alike b c (Ok f) = refl
+count_alike b c (Err r) = refl
 
 module _ (i : FlushIn) (s : Fit i.ring (length i.store)) (w : Wide i.ring) where
   abbrev held_now : ℕ
@@ -375,12 +392,12 @@ module _ (i : FlushIn) (s : Fit i.ring (length i.store)) (w : Wide i.ring) where
   none_taken o c = answer_is ∙ rw (o, c, le-ltb (length i.out) 0 (omega arith), late_none) (lowest_done _)
 
   -- nothing is held
-  pub flush_empty : held_now ≡ 0 → ◌≡◌ {A = FlushLeft} (record { answer = told Done; count = 0; ring = i.ring; out = i.out }) (flush_of i)
+  pub flush_empty : held_now ≡ 0 → ◌≡◌ {A = FlushLeft} (record { answer = told done; count = 0; ring = i.ring; out = i.out }) (flush_of i)
   flush_empty e =
       let c : flush_count i ≡ 0 = count_is ∙ when_true _ _ _ (eq-eqb held_now 0 e) in
       let o : flush_over i ≡ false = over_is ∙ rw (eq-eqb held_now 0 e) in
-      let d : flush_answer i ≡ Done = none_taken o c ∙ ends_none held_now i.answers.first e in
-      ap (λ (r : TxBuf). record { answer = told Done; count = 0; ring = r; out = i.out }) (sym (advanced_none i.ring w))
+      let d : flush_answer i ≡ done = none_taken o c ∙ ends_none held_now i.answers.first e in
+      ap (λ (r : TxBuf). record { answer = told done; count = 0; ring = r; out = i.out }) (sym (advanced_none i.ring w))
       ∙ sym (done_at_lem i 0 c) ∙ sym (flush_is_done i d)
 
   module _ (l : 0 < held_now) where
@@ -396,11 +413,10 @@ module _ (i : FlushIn) (s : Fit i.ring (length i.store)) (w : Wide i.ring) where
         flush_refused i (stopped_by i.answers.first) (none_taken o c ∙ ends_some held_now i.answers.first l) (not_count_stops i.answers.first k)
 
     -- it counts more than was offered
-    pub flush_bad : offered < first_count → ◌≡◌ {A = FlushLeft} (record { answer = told BadAnswer; count = 0; ring = i.ring; out = i.out }) (flush_of i)
-    unfolding is_done
+    pub flush_bad : offered < first_count → ◌≡◌ {A = FlushLeft} (record { answer = told (Err BadAnswer); count = 0; ring = i.ring; out = i.out }) (flush_of i)
     flush_bad m =
         let o : flush_over i ≡ true = over_some l ∙ rw (lt-ltb offered first_count m) in
-        flush_refused i BadAnswer (answer_is ∙ rw (o, late_over (ltb (length i.out) (flush_count i))) (lowest_refused BadAnswer _ refl)) refl
+        flush_refused i (Err BadAnswer) (answer_is ∙ rw (o, late_over (ltb (length i.out) (flush_count i))) (lowest_refused (Err BadAnswer) _ refl)) refl
 
     -- the first write takes bytes: only 5 and 6 can refuse
     taking : (k : ℕ) → i.answers.first ≡ Count k → flush_answer i ≡ late_of (flush_over i) (ltb (length i.out) (flush_count i))
@@ -419,7 +435,7 @@ module _ (i : FlushIn) (s : Fit i.ring (length i.store)) (w : Wide i.ring) where
         let g : length piece ≡ k = ap length f ∙ length-take-le k _ (rw (piece_length i.ring i.store s w) (omega arith)) in
         let a : flush_answer i ≡ late_of false (ltb (length i.out) k) = taking k e ∙ rw (o, c) in
         finish_is i piece 0 0 i.out (rw g (sym a))
-        (λ (d : flush_answer i ≡ Done).
+        (λ (d : flush_answer i ≡ done).
         let fits : k ≤ length i.out = ltb-false _ _ (late_passed _ _ (sym a ∙ d)).room_ok in
         (rw c (omega arith), rw c (copied_fits i.out piece (omega arith) ∙ rw (g, h))))
         (λ t. refl)
@@ -488,9 +504,9 @@ module _ (i : FlushIn) (s : Fit i.ring (length i.store)) (w : Wide i.ring) where
           let x : r ≡ record { answer = told a; count = 0; ring = advanced i.ring k; out = rest_in.out } = f ∙ sym (flush_refused rest_in a g n) in
           let y : O ≡ i.out = h ∙ ap (λ (z : FlushLeft). take (min k (length i.out)) i.out ++ z.out) x ∙ take-append-drop (min k (length i.out)) i.out in
           rw (ap (λ (z : FlushLeft). z.answer.number) x)
-          (finish_is i piece (told a).number r.count O j (λ (d : flush_answer i ≡ Done). absurd (never (sym m ∙ ap is_done d ∙ done_is_done))) (λ t. y))
+          (finish_is i piece (told a).number r.count O j (λ (d : flush_answer i ≡ done). absurd (never (sym m ∙ ap is_done d ∙ done_is_done))) (λ t. y))
 
-      over_answer : flush_over rest_in ≡ true → flush_answer i ≡ BadAnswer
+      over_answer : flush_over rest_in ≡ true → flush_answer i ≡ Err BadAnswer
       over_answer o = whole_answer ∙ rw o (late_over _)
 
       -- otherwise it counts what it took, behind the place of the piece
@@ -546,7 +562,7 @@ module _ (i : FlushIn) (s : Fit i.ring (length i.store)) (w : Wide i.ring) where
           (lt_or_ge room k) in
           let a : flush_answer i ≡ late_of false (ltb room (k + n)) = whole_answer ∙ rw o in
           finish_is i piece r.answer.number r.count O (rw (rest.not_bad, rest.not_room, lo, g, same) (sym a))
-          (λ (d : flush_answer i ≡ Done).
+          (λ (d : flush_answer i ≡ done).
           let fits : k + n ≤ room = ltb-false _ _ (late_passed _ _ (sym a ∙ d)).room_ok in
           let qk : q ≡ k = omega arith in
           let lt : length (take q i.out) ≡ k = length-take-le q i.out (omega arith) ∙ qk in
@@ -573,47 +589,49 @@ module _ (i : FlushIn) (s : Fit i.ring (length i.store)) (w : Wide i.ring) where
       pub flush_whole : (piece O : List ℕ) (r : FlushLeft) → piece ≡ first_piece i.ring i.store → r ≡ flush_of rest_in
           → O ≡ take (min k (length i.out)) i.out ++ r.out
           → finish_of i.ring piece r.answer.number r.count O ≡ flush_of i
-      unfolding finish_answer is_done
+      unfolding finish_answer
       flush_whole piece O r f g h =
           let room : ℕ = length i.out in
           let q : ℕ = min k room in
           let n : ℕ = flush_count rest_in in
           ⊎_elim
           (λ (o : flush_over rest_in ≡ true).
-          refused_rest piece O r BadAnswer g (rest_answer ∙ rw (o, late_over (ltb (length rest_in.out) n)) (lowest_refused BadAnswer _ refl)) refl h
+          refused_rest piece O r (Err BadAnswer) g (rest_answer ∙ rw (o, late_over (ltb (length rest_in.out) n)) (lowest_refused (Err BadAnswer) _ refl)) refl h
           (late_over _ ∙ sym (over_answer o)) (ap is_done (over_answer o)))
           (λ (o : flush_over rest_in ≡ false).
           ⊎_elim
           (λ (u : length rest_in.out < n).
           let v = rest_room in
-          let no : flush_answer i ≡ NoRoom = whole_answer ∙ rw (o, lt-ltb room (k + n) (omega arith)) late_room in
-          refused_rest piece O r NoRoom g (rest_answer ∙ rw (o, lt-ltb (length rest_in.out) n u, late_room) (lowest_refused NoRoom _ refl)) refl h (late_room ∙ sym no) (ap is_done no))
+          let no : flush_answer i ≡ Err NoRoom = whole_answer ∙ rw (o, lt-ltb room (k + n) (omega arith)) late_room in
+          refused_rest piece O r (Err NoRoom) g (rest_answer ∙ rw (o, lt-ltb (length rest_in.out) n u, late_room) (lowest_refused (Err NoRoom) _ refl)) refl h (late_room ∙ sym no) (ap is_done no))
           (λ (u : n ≤ length rest_in.out). passed_rest piece O r f o u (rest_left r g o u) h)
           (lt_or_ge (length rest_in.out) n))
           (true_or_false (flush_over rest_in))
 
       -- the same, of what the code has in hand: the part of the buffer that was lent, and how it came back
-      pub whole_left : (piece X : List ℕ) (q : ℕ) (b : TxBuf) (rest : Flushed) → piece ≡ first_piece i.ring i.store → q ≡ min k (length i.out) → b ≡ advanced i.ring k
-          → ◌≡◌ {A = FlushLeft} (record { answer = told rest.answer; count = rest.count; ring = rest.ring; out = X })
-          (flush_of (record { ring = b; store = i.store; answers = record { first = i.answers.second; second = WouldBlock }; out = take (length i.out - q) (drop q i.out) }))
-          → finish_of i.ring piece (told rest.answer).number rest.count (take q i.out ++ (X ++ drop (length i.out - q) (drop q i.out))) ≡ flush_of i
+      pub whole_left : (piece X : List ℕ) (q : ℕ) (b : TxBuf) (rest : Result Flushed Refusal) → piece ≡ first_piece i.ring i.store → q ≡ min k (length i.out) → b ≡ advanced i.ring k
+          → flush_seen b rest X
+          ≡ flush_of (record { ring = b; store = i.store; answers = record { first = i.answers.second; second = WouldBlock }; out = take (length i.out - q) (drop q i.out) })
+          → finish_of i.ring piece (told (answer_of rest)).number (flushed_or i.ring rest).count (take q i.out ++ (X ++ drop (length i.out - q) (drop q i.out))) ≡ flush_of i
       whole_left piece X q b rest f m d g =
           let v : length (drop q i.out) ≡ length i.out - q = length-drop q i.out in
           let lent : take (length i.out - q) (drop q i.out) ≡ drop (min k (length i.out)) i.out =
           take_all (length i.out - q) (drop q i.out) (omega arith) ∙ ap (λ (x : ℕ). drop x i.out) m in
           let back : X ++ drop (length i.out - q) (drop q i.out) ≡ X =
           ap (λ (x : List ℕ). X ++ x) (drop_of_length-le (drop q i.out) {i = length i.out - q} (omega arith)) ∙ append-nil X in
-          flush_whole piece (take q i.out ++ (X ++ drop (length i.out - q) (drop q i.out))) (record { answer = told rest.answer; count = rest.count; ring = rest.ring; out = X }) f
+          ap (λ (n : ℕ). finish_of i.ring piece (told (answer_of rest)).number n (take q i.out ++ (X ++ drop (length i.out - q) (drop q i.out)))) (count_alike i.ring b rest)
+          ∙ flush_whole piece (take q i.out ++ (X ++ drop (length i.out - q) (drop q i.out))) (flush_seen b rest X) f
           (g ∙ ap (λ (x : TxBuf). flush_of (record { ring = x; store = i.store; answers = record { first = i.answers.second; second = WouldBlock }; out = take (length i.out - q) (drop q i.out) })) d
           ∙ ap (λ (x : List ℕ). flush_of (record { ring = advanced i.ring k; store = i.store; answers = record { first = i.answers.second; second = WouldBlock }; out = x })) lent)
           (ap (λ (x : List ℕ). take q i.out ++ x) back ∙ ap (λ (x : ℕ). take x i.out ++ X) m)
 
       -- the piece and what the rest counts are no more than a ring
-      pub rest_small : (piece : List ℕ) (b : TxBuf) (m : ℕ) → piece ≡ first_piece i.ring i.store → b ≡ advanced i.ring k → m ≤ used_of b → length piece + m ≤ max_ring
-      rest_small piece b m f d le =
+      pub rest_small : (piece : List ℕ) (b : TxBuf) (rest : Result Flushed Refusal) → piece ≡ first_piece i.ring i.store → b ≡ advanced i.ring k
+          → (flushed_or b rest).count ≤ used_of b → length piece + (flushed_or i.ring rest).count ≤ max_ring
+      rest_small piece b rest f d le =
           let g : length piece ≡ k = ap length f ∙ piece_length i.ring i.store s w ∙ sym whole in
           let u : used_of b ≡ held_now - k = ap used_of d ∙ advanced_used i.ring i.store s w k below_held in
-          at_most (length piece) k m (used_of b) held_now i.ring.size g u below_held le s.within s.most
+          rw (count_alike i.ring b rest) (at_most (length piece) k (flushed_or b rest).count (used_of b) held_now i.ring.size g u below_held le s.within s.most)
 
       -- the held length falls
       pub held_falls : used_of (advanced i.ring k) < held_now
@@ -624,10 +642,11 @@ module _ (i : FlushIn) (s : Fit i.ring (length i.store)) (w : Wide i.ring) where
 
 -- ---- for the code
 
-pub stopped_left : (i : FlushIn) (a : Answer) (r : Flushed) → r ≡ record { answer = a; count = 0; ring = i.ring }
-    → ◌≡◌ {A = FlushLeft} (record { answer = told a; count = 0; ring = i.ring; out = i.out }) (flush_of i)
-    → ◌≡◌ {A = FlushLeft} (record { answer = told r.answer; count = r.count; ring = r.ring; out = i.out }) (flush_of i)
-stopped_left i a r e f = ap (λ (x : Flushed). record { answer = told x.answer; count = x.count; ring = x.ring; out = i.out }) e ∙ f
+-- a first write that blocks or fails: what the code gives
+pub stopped_left : (i : FlushIn) (a : Answer) (r : Result Flushed Refusal) → r ≡ result_and a (Ok (record { count = 0; ring = i.ring }))
+    → ◌≡◌ {A = FlushLeft} (record { answer = told a; count = 0; ring = i.ring; out = i.out }) (flush_of i) → flush_seen i.ring r i.out ≡ flush_of i
+stopped_left i (Ok u) r e f = rw e f
+stopped_left i (Err q) r e f = rw e f
 
 -- by the length of the first piece: something is held, or nothing
 pub nothing_held : (b : TxBuf) (st : List ℕ) → Fit b (length st) → Wide b → length (first_piece b st) ≡ 0 → used_of b ≡ 0
@@ -641,7 +660,7 @@ pub something_held : (b : TxBuf) (st : List ℕ) → Fit b (length st) → Wide 
 something_held b st s w n =
     ⊎_elim (λ (l : 0 < used_of b). l) (λ (l : used_of b ≤ 0). let m = piece_length b st s w in absurd (n (omega arith))) (lt_or_ge 0 (used_of b))
 
-count_le : (i : FlushIn) → flush_answer i ≡ Done → flush_count i ≤ used_of i.ring
+count_le : (i : FlushIn) → flush_answer i ≡ done → flush_count i ≤ used_of i.ring
 unfolding flush_count flush_over
 count_le i d = taken_le i.ring.size (in_turn i) i.ring.tail (used_of i.ring) (not_over i d)
 
@@ -696,8 +715,8 @@ fewer : (u n c : ℕ) → u ≡ n - c → 0 < c → 0 < n → u < n
 fewer u n c e p q = omega arith
 
 pub flush_progresses : FlushProgresses
-flush_progresses i left n w says done e l =
-    let d : flush_answer i ≡ Done = told_tells_apart _ _ (sym (flush_told i) ∙ ap (λ (o : FlushLeft). o.answer) (sym says) ∙ done) in
+flush_progresses i left n w says told_done e l =
+    let d : flush_answer i ≡ done = told_tells_apart _ _ (sym (flush_told i) ∙ ap (λ (o : FlushLeft). o.answer) (sym says) ∙ told_done) in
     let u : used_of left.ring ≡ used_of i.ring - flush_count i =
     ap (λ (o : FlushLeft). used_of o.ring) (says ∙ flush_is_done i d ∙ done_at_lem i (flush_count i) refl)
     ∙ advanced_used i.ring i.store (sound_done i d) w (flush_count i) (count_le i d) in
@@ -725,7 +744,7 @@ unsound_has_no_piece = record {
 }
 
 -- what a flush that is done answers
-pub flushed_told : (i : FlushIn) → flush_answer i ≡ Done → (flush_of i).answer ≡ told Done
+pub flushed_told : (i : FlushIn) → flush_answer i ≡ done → (flush_of i).answer ≡ told done
 flushed_told i d = flush_told i ∙ ap told d
 
 -- a flush leaves 32-bit counters

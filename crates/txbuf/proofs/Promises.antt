@@ -1,7 +1,7 @@
 -- The promises of specs/Promises, specs/Means, specs/Answers and specs/Outcomes, each by its law. Assumes nothing.
 use mathlib.Core.Path.{refl}
 use Rattle.defs.specs.Choice.{when}
-use Rattle.defs.specs.Answer.{is_done, when_done}
+use Rattle.defs.specs.Answer.{when_done}
 use Rattle.defs.specs.Limits.{is_ring_size, is_packet_length}
 use Rattle.defs.specs.Ladder.{door_of, late_of, lowest_of, record_answer}
 use Rattle.defs.specs.Copying.{copied}
@@ -90,7 +90,7 @@ pub looks_mean : LooksMean
 looks_mean = done.looks_mean
 
 pub edges_hold : EdgesHold
-unfolding when is_done when_done is_ring_size is_packet_length door_of late_of lowest_of copied sound_record sound_of record_answer held_from held runs push_answer push_done push_kept push_of first_piece taken_by over_by ends_by flush_count flush_over flush_answer second_piece flush_done flush_kept flush_of new_of reading_bcd reading_f reading_r
+unfolding when when_done is_ring_size is_packet_length door_of late_of lowest_of copied sound_record sound_of record_answer held_from held runs push_answer push_done push_kept push_of first_piece taken_by over_by ends_by flush_count flush_over flush_answer second_piece flush_done flush_kept flush_of new_of reading_bcd reading_f reading_r
 edges_hold = record {
   bcd = (refl, (refl, (refl, tt)));
   f = (refl, (refl, (refl, (refl, tt))));

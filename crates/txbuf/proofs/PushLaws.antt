@@ -1,6 +1,7 @@
 -- Laws of `push`: the two runs that the code makes, what each answer says of the record, and that a push appends. Assumes nothing.
+use Rattle.std.specs.Prelude.{Ok, Err}
 use Prim.Native.Nat.{ℕ, ◌+◌, ◌-◌, ◌%◌, ◌^◌, ◌<◌, ◌≤◌, min}
-use mathlib.Core.Path.{◌≡◌, sym, ap, ◌∙◌}
+use mathlib.Core.Path.{◌≡◌, refl, sym, ap, ◌∙◌}
 use mathlib.Core.Logic.{⊎_elim}
 use mathlib.Core.List.{List, [], ◌++◌, append-nil}
 use native.Mathlib.Omega.{arith}
@@ -8,18 +9,17 @@ use lib.ListN.{length, take, drop, length-drop, drop_of_length-le}
 use lib.Seq.{take_all}
 use borrow.Author.Tests.{le-ltb}
 use Rattle.defs.specs.Choice.{when}
-use Rattle.defs.specs.Answer.{told, is_done, when_done}
+use Rattle.defs.specs.Answer.{done, when_done}
+use Rattle.defs.specs.declared.answer.Refusal.{Refusal}
 use Rattle.defs.specs.Ladder.{door_of, lowest_of}
 use Rattle.defs.specs.Wrapping.{wadd, wsub}
 use Rattle.defs.specs.Copying.{copied}
-use Rattle.defs.specs.declared.answer.Answer.{Answer}
-use Rattle.defs.specs.declared.answer.Answer.TheVariants.{Done}
 use Rattle.defs.proofs.Basics.{lt_or_ge}
-use Rattle.defs.proofs.AnswerLaws.{NotDone, not_done, when_done_lem, when_not_done, told_tells_apart}
+use Rattle.defs.proofs.AnswerLaws.{when_done_lem, told_tells_apart}
 use Rattle.defs.proofs.LimitLaws.{packet_length}
 use Rattle.defs.proofs.WrappingLaws.{keeps_place}
 use Rattle.txbuf.specs.Record.{Wide, used_of, held_from, held}
-use Rattle.txbuf.specs.Push.{runs, written, PushIn, PushLeft, push_answer, push_answer_of, push_done, push_kept, push_of}
+use Rattle.txbuf.specs.Push.{runs, written, PushIn, PushLeft, push_seen, push_answer, push_answer_of, push_done, push_kept, push_of}
 use Rattle.txbuf.specs.Promises.{PushAppends}
 use Rattle.txbuf.specs.declared.record.TxBuf.{TxBuf}
 use Rattle.txbuf.proofs.RecordLaws.{Fit, is_sound_lem, used_after}
@@ -29,7 +29,7 @@ use Rattle.txbuf.proofs.RingLaws.{write_cong, held_write, runs_written}
 -- ---- the code's two copies
 
 -- y is what the part from `at` on is left as, z the whole storage after the second copy
-pub runs_are : (st src y z : List ℕ) (at n : ℕ) → n ≡ min (length st - at) (length src)
+pub runs_are : (st src y z : List ℕ) (at n : ℕ) → n ≡ min (length src) (length st - at)
     → y ≡ copied (take (length st - at) (drop at st)) src
     → z ≡ copied (take at st ++ (y ++ drop (length st - at) (drop at st))) (take (length src - n) (drop n src))
     → z ≡ runs st at src
@@ -51,28 +51,24 @@ runs_are st src y z at n e f g =
 
 -- ---- what a push needs to be done
 
-pub is_ready : (b : TxBuf) (storage bytes : ℕ) → Ready b storage bytes → push_answer b storage bytes ≡ Done
-unfolding push_answer lowest_of door_of when_done is_done when
+pub is_ready : (b : TxBuf) (storage bytes : ℕ) → Ready b storage bytes → push_answer b storage bytes ≡ done
+unfolding push_answer lowest_of door_of when_done when
 is_ready b storage bytes r = simp (is_sound_lem b storage r.sound, (packet_length bytes).1 r.short, le-ltb _ _ r.room)
 
 -- ---- the two ends of a call
 
-pub push_refused : (i : PushIn) (a : Answer) → a ≡ push_answer_of i → NotDone a
-    → ◌≡◌ {A = PushLeft} (record { answer = told a; ring = i.ring; store = i.store }) (push_of i)
-unfolding push_of push_kept
-push_refused i a e k =
-    ap (λ (x : Answer). record { answer = told x; ring = i.ring; store = i.store }) e
-    ∙ sym (when_not_done (push_answer_of i) _ _ (ap is_done (sym e) ∙ not_done a k))
+pub push_refused : (i : PushIn) (r : Refusal) → push_answer_of i ≡ Err r → push_seen i.ring (Err r) i.store ≡ push_of i
+unfolding push_of push_kept when_done when
+push_refused i r e = rw e refl
 
-pub push_is_done : (i : PushIn) → push_answer_of i ≡ Done → push_of i ≡ push_done i
+pub push_is_done : (i : PushIn) → push_answer_of i ≡ done → push_of i ≡ push_done i
 unfolding push_of
 push_is_done i d = when_done_lem (push_answer_of i) _ _ d
 
-pub push_left : (i : PushIn) (a : Answer) (h : ℕ) (x : List ℕ) → a ≡ push_answer_of i → a ≡ Done → h ≡ wadd i.ring.head (length i.src)
-    → x ≡ runs i.store (i.ring.head % i.ring.size) i.src
-    → ◌≡◌ {A = PushLeft} (record { answer = told a; ring = record { size = i.ring.size; head = h; tail = i.ring.tail }; store = x }) (push_of i)
+pub push_left : (i : PushIn) (h : ℕ) (x : List ℕ) → push_answer_of i ≡ done → h ≡ wadd i.ring.head (length i.src) → x ≡ runs i.store (i.ring.head % i.ring.size) i.src
+    → push_seen i.ring (Ok (record { size = i.ring.size; head = h; tail = i.ring.tail })) x ≡ push_of i
 unfolding push_done
-push_left i a h x e d f g = rw (push_is_done i (sym e ∙ d), d, f, g)
+push_left i h x d f g = rw (push_is_done i d, f, g)
 
 -- ---- a push appends
 
@@ -80,7 +76,7 @@ push_left i a h x e d f g = rw (push_is_done i (sym e ∙ d), d, f, g)
 pub head_at : (b : TxBuf) (n : ℕ) → Fit b n → b.tail < 2 ^ 32 → b.head % b.size ≡ (b.tail + used_of b) % b.size
 head_at b n s t = sym (keeps_place.difference b.size b.head b.tail s.sized t) ∙ ap (λ (k : ℕ). k % b.size) (let e : used_of b + b.tail ≡ b.tail + used_of b = omega arith in e)
 
-push_done_appends : (i : PushIn) → Wide i.ring → push_answer_of i ≡ Done → held (push_of i).ring (push_of i).store ≡ held i.ring i.store ++ i.src
+push_done_appends : (i : PushIn) → Wide i.ring → push_answer_of i ≡ done → held (push_of i).ring (push_of i).store ≡ held i.ring i.store ++ i.src
 unfolding held push_done
 push_done_appends i wide d =
     let b = i.ring in
@@ -99,5 +95,5 @@ push_done_appends i wide d =
 
 pub push_appends : PushAppends
 push_appends i left wide says e =
-    let d : push_answer_of i ≡ Done = told_tells_apart _ _ (sym (push_told i) ∙ ap (λ (o : PushLeft). o.answer) (sym says) ∙ e) in
+    let d : push_answer_of i ≡ done = told_tells_apart _ _ (sym (push_told i) ∙ ap (λ (o : PushLeft). o.answer) (sym says) ∙ e) in
     rw says (push_done_appends i wide d)

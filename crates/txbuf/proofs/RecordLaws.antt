@@ -6,8 +6,6 @@ use mathlib.Core.Bool.{true}
 use mathlib.Core.List.{List}
 use native.Mathlib.Omega.{arith}
 use native.Mathlib.Nat.{mod-lt, mod_self, mod-add-mod}
-use mir.Val.{Fits}
-use mir.Syntax.{w64}
 use lib.ListN.{length}
 use borrow.Author.Tests.{leb-true, eqb-true, le-leb, eq-eqb}
 use Rattle.defs.specs.Limits.{min_ring, max_ring, is_ring_size}
@@ -60,9 +58,6 @@ pub used_advanced : (h t k : ℕ) → h < 2 ^ 32 → t < 2 ^ 32 → k ≤ wsub h
 used_advanced h t k p q l = omega arith
 
 -- an offset into the storage, whichever counter it is of
-pub offset_fits : (x size : ℕ) → 0 < size → size ≤ max_ring → Fits w64 (x % size)
-offset_fits x size p l = let m = mod-lt x p in omega arith
-
 pub offset_in : (x size n : ℕ) → 0 < size → n ≡ size → x % size < n
 offset_in x size n p e = let m = mod-lt x p in omega arith
 

@@ -1,8 +1,8 @@
 -- The readings of 01 that the ring decides: f and the ring's share of b, c and d (R = 16), and the sizes on both sides of R's limit. Assumes nothing.
-use Rattle.std.specs.Prelude.{ℕ, List, [], ◌∷◌, ◌++◌, take, drop, replicate}
-use Rattle.defs.specs.Answer.{told}
+use Rattle.std.specs.Prelude.{ℕ, List, [], ◌∷◌, ◌++◌, take, drop, replicate, Err}
+use Rattle.defs.specs.Answer.{told, done}
 use Rattle.defs.specs.Reading.{Reading, ◌reads◌}
-use Rattle.defs.specs.declared.answer.Answer.TheVariants.{Done, BadRecord, TxBufFull}
+use Rattle.defs.specs.declared.answer.Refusal.TheVariants.{BadRecord, TxBufFull}
 use Rattle.defs.specs.declared.stream.StreamAnswer.TheVariants.{Count, Failed}
 use Rattle.txbuf.specs.Record.{held, NewLeft, new_of}
 use Rattle.txbuf.specs.Push.{PushLeft, push_of}
@@ -35,9 +35,9 @@ unfoldable pub reading_bcd : List Reading
 reading_bcd =
     (held after_b.ring after_b.store reads untaken)
     ∷ (push_of (record { ring = after_b.ring; store = after_b.store; src = ten })
-    reads record { answer = told Done; ring = ring 16 0; store = untaken ++ ten })
+    reads record { answer = told done; ring = ring 16 0; store = untaken ++ ten })
     ∷ (push_of (record { ring = after_b.ring; store = after_b.store; src = eleven })
-    reads record { answer = told TxBufFull; ring = ring 6 0; store = untaken ++ drop 6 places })
+    reads record { answer = told (Err TxBufFull); ring = ring 6 0; store = untaken ++ drop 6 places })
     ∷ []
 
 -- f: head 20, tail 12: the pieces at 12..16 and 0..4, both one after the other, and 4 taken, then failure
@@ -47,15 +47,15 @@ reading_f =
     ∷ (second_piece (ring 20 12) places reads 0 ∷ 1 ∷ 2 ∷ 3 ∷ [])
     ∷ (held (ring 20 12) places reads 12 ∷ 13 ∷ 14 ∷ 15 ∷ 0 ∷ 1 ∷ 2 ∷ 3 ∷ [])
     ∷ (flush_of (record { ring = ring 20 12; store = places; answers = record { first = Count 4; second = Failed }; out = take 8 ten })
-    reads record { answer = told Done; count = 4; ring = ring 20 16; out = 12 ∷ 13 ∷ 14 ∷ 15 ∷ 54 ∷ 55 ∷ 56 ∷ 57 ∷ [] })
+    reads record { answer = told done; count = 4; ring = ring 20 16; out = 12 ∷ 13 ∷ 14 ∷ 15 ∷ 54 ∷ 55 ∷ 56 ∷ 57 ∷ [] })
     ∷ []
 
 -- an empty ring of a size; a size that no ring has: answer 1 and the all-zero ring
 abbrev opened : ℕ → NewLeft
-opened size = record { answer = told Done; ring = record { size = size; head = 0; tail = 0 } }
+opened size = record { answer = told done; ring = record { size = size; head = 0; tail = 0 } }
 
 abbrev refused : NewLeft
-refused = record { answer = told BadRecord; ring = record { size = 0; head = 0; tail = 0 } }
+refused = record { answer = told (Err BadRecord); ring = record { size = 0; head = 0; tail = 0 } }
 
 -- a ring of 131,072 bytes, by its head and tail; five bytes pushed where both are two before the end of its storage
 abbrev wide : ℕ → ℕ → TxBuf
@@ -85,11 +85,11 @@ reading_r =
     ∷ (new_of 1048575 reads refused)
     ∷ (new_of 1048577 reads refused)
     ∷ (new_of 2097152 reads refused)
-    ∷ (round.answer reads told Done)
+    ∷ (round.answer reads told done)
     ∷ (round.ring reads wide 131075 131070)
     ∷ (first_piece round.ring round.store reads 1 ∷ 2 ∷ [])
     ∷ (second_piece round.ring round.store reads 3 ∷ 4 ∷ 5 ∷ [])
-    ∷ (whole.answer reads told Done)
+    ∷ (whole.answer reads told done)
     ∷ (whole.count reads 131072)
     ∷ (whole.ring reads wide 131072 131072)
     ∷ []

@@ -1,17 +1,17 @@
 -- `flush_to` and the first piece (01, "The ring"). Assumes nothing.
-use Rattle.std.specs.Prelude.{ℕ, ◌+◌, ◌-◌, ◌%◌, min, ◌≡◌, Bool, false, not, ◌&&◌, ◌||◌, List, [], ◌∷◌, ◌++◌, length, take, drop, ltb, eqb}
+use Rattle.std.specs.Prelude.{ℕ, ◌+◌, ◌-◌, ◌%◌, min, ◌≡◌, Bool, false, not, ◌&&◌, ◌||◌, List, [], ◌∷◌, ◌++◌, length, take, drop, ltb, eqb, Result}
 use Rattle.defs.specs.Choice.{when}
-use Rattle.defs.specs.Answer.{Told, told, when_done}
+use Rattle.defs.specs.Answer.{Told, Answer, told, done, when_done, answer_of, given_or}
 use Rattle.defs.specs.Stream.{counted, stopped_by}
 use Rattle.defs.specs.Ladder.{late_of, lowest_of, record_answer}
 use Rattle.defs.specs.Wrapping.{wadd}
 use Rattle.defs.specs.Copying.{copied}
-use Rattle.defs.specs.declared.answer.Answer.{Answer}
-use Rattle.defs.specs.declared.answer.Answer.TheVariants.{Done}
+use Rattle.defs.specs.declared.answer.Refusal.{Refusal}
 use Rattle.defs.specs.declared.stream.StreamAnswer.{StreamAnswer}
 use Rattle.defs.specs.declared.stream.StreamAnswers.{StreamAnswers}
 use Rattle.txbuf.specs.Record.{used_of, sound_of, held}
 use Rattle.txbuf.specs.declared.record.TxBuf.{TxBuf}
+use Rattle.txbuf.specs.declared.flush.Flushed.{Flushed}
 
 -- how many of n bytes held from the place t on are offered: to the storage's end or the head, whichever is nearer
 abbrev pub piece_len : ℕ → ℕ → ℕ → ℕ
@@ -41,7 +41,7 @@ over_by size t n (a ∷ later) =
 
 -- how it ends: done, or 10 where a first write was due and blocked or failed
 unfoldable pub ends_by : ℕ → StreamAnswer → Answer
-ends_by n a = when (eqb n 0) Done (stopped_by a)
+ends_by n a = when (eqb n 0) done (stopped_by a)
 
 -- ---- the call
 
@@ -56,6 +56,14 @@ pub record FlushLeft : Type 0 where
   pub count : ℕ
   pub ring : TxBuf
   pub out : List ℕ
+
+-- what a flush gives; where it is refused nothing is counted, and the ring stays
+abbrev pub flushed_or : TxBuf → Result Flushed Refusal → Flushed
+flushed_or b r = given_or (record { count = 0; ring = b }) r
+
+-- what is seen of it: its answer, what it counts, the ring and the outgoing buffer
+abbrev pub flush_seen : TxBuf → Result Flushed Refusal → List ℕ → FlushLeft
+flush_seen b r out = record { answer = told (answer_of r); count = (flushed_or b r).count; ring = (flushed_or b r).ring; out = out }
 
 abbrev pub in_turn : FlushIn → List StreamAnswer
 in_turn i = i.answers.first ∷ i.answers.second ∷ []
@@ -84,7 +92,7 @@ second_piece b store = first_piece (advanced b (length (first_piece b store))) s
 -- the oldest bytes, as many as were taken, stand at the front of the outgoing buffer, the rest of which stays
 unfoldable pub flush_done : FlushIn → FlushLeft
 flush_done i = record {
-  answer = told Done;
+  answer = told done;
   count = flush_count i;
   ring = advanced i.ring (flush_count i);
   out = take (flush_count i) (held i.ring i.store) ++ drop (flush_count i) i.out;
@@ -109,5 +117,5 @@ finish_answer number bytes room = late_of (eqb number 5) (eqb number 6 || ltb ro
 unfoldable pub finish_of : TxBuf → List ℕ → ℕ → ℕ → List ℕ → FlushLeft
 finish_of b piece number count out =
     when_done (finish_answer number (length piece) (length out))
-    (record { answer = told Done; count = length piece + count; ring = advanced b (length piece + count); out = copied out piece })
+    (record { answer = told done; count = length piece + count; ring = advanced b (length piece + count); out = copied out piece })
     (record { answer = told (finish_answer number (length piece) (length out)); count = 0; ring = b; out = out })

@@ -1,8 +1,7 @@
 -- What this crate promises besides specs/Means, specs/Answers and specs/Outcomes, in statements only; proofs/Promises has a line for each. Assumes nothing.
 use Rattle.std.specs.Prelude.{ℕ, suc, ◌%◌, ◌<◌, ◌≤◌, ◌≡◌, true, List, [], ◌++◌, length, take, drop}
-use Rattle.defs.specs.Answer.{told}
+use Rattle.defs.specs.Answer.{told, done}
 use Rattle.defs.specs.Reading.{Hold}
-use Rattle.defs.specs.declared.answer.Answer.TheVariants.{Done}
 use Rattle.defs.specs.declared.stream.StreamAnswer.TheVariants.{Count}
 use Rattle.txbuf.specs.Record.{Wide, used_of, sound_of, held}
 use Rattle.txbuf.specs.Push.{runs, written, PushIn, PushLeft, PushSays}
@@ -23,7 +22,7 @@ HeldIsCounted = (b : TxBuf) (store : List ℕ) → length (held b store) ≡ use
 -- a push that is done appends its bytes to those that are held
 abbrev pub PushAppends : Type 0
 PushAppends =
-    (i : PushIn) (left : PushLeft) → Wide i.ring → PushSays i left → left.answer ≡ told Done
+    (i : PushIn) (left : PushLeft) → Wide i.ring → PushSays i left → left.answer ≡ told done
     → held left.ring left.store ≡ held i.ring i.store ++ i.src
 
 -- the first piece of a sound ring is the front of what is held, to the storage's end or the head
@@ -50,7 +49,7 @@ FlushTakesOldest = (i : FlushIn) (left : FlushLeft) → Wide i.ring → FlushSay
 -- a flush whose first write takes at least one byte leaves fewer held
 abbrev pub FlushProgresses : Type 0
 FlushProgresses =
-    (i : FlushIn) (left : FlushLeft) (n : ℕ) → Wide i.ring → FlushSays i left → left.answer ≡ told Done
+    (i : FlushIn) (left : FlushLeft) (n : ℕ) → Wide i.ring → FlushSays i left → left.answer ≡ told done
     → i.answers.first ≡ Count (suc n) → 0 < used_of i.ring → used_of left.ring < used_of i.ring
 
 -- 01's readings at the edges of this crate

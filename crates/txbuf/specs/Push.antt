@@ -1,13 +1,13 @@
 -- `push` (01, "The ring"): all or nothing. Assumes nothing.
-use Rattle.std.specs.Prelude.{ℕ, suc, ◌+◌, ◌-◌, ◌%◌, ◌≡◌, not, false, List, [], ◌∷◌, ◌++◌, length, take, drop, set, ltb}
+use Rattle.std.specs.Prelude.{ℕ, suc, ◌+◌, ◌-◌, ◌%◌, ◌≡◌, not, false, List, [], ◌∷◌, ◌++◌, length, take, drop, set, ltb, Result, Err}
 use Rattle.defs.specs.Choice.{when}
-use Rattle.defs.specs.Answer.{Told, told, when_done}
+use Rattle.defs.specs.Answer.{Told, Answer, told, done, when_done, answer_of, given_or}
 use Rattle.defs.specs.Limits.{is_packet_length}
 use Rattle.defs.specs.Ladder.{door_of, lowest_of}
 use Rattle.defs.specs.Wrapping.{wadd}
 use Rattle.defs.specs.Copying.{copied}
-use Rattle.defs.specs.declared.answer.Answer.{Answer}
-use Rattle.defs.specs.declared.answer.Answer.TheVariants.{Done, TxBufFull}
+use Rattle.defs.specs.declared.answer.Refusal.{Refusal}
+use Rattle.defs.specs.declared.answer.Refusal.TheVariants.{TxBufFull}
 use Rattle.txbuf.specs.Record.{used_of, sound_of}
 use Rattle.txbuf.specs.declared.record.TxBuf.{TxBuf}
 
@@ -30,10 +30,14 @@ pub record PushLeft : Type 0 where
   pub ring : TxBuf
   pub store : List ℕ
 
+-- what is seen of a push: its answer, the ring that it gives, or that stays where it is refused, and the storage
+abbrev pub push_seen : TxBuf → Result TxBuf Refusal → List ℕ → PushLeft
+push_seen b r store = record { answer = told (answer_of r); ring = given_or b r; store = store }
+
 -- 01's table: 1 and 4, then 9 where held plus new exceeds the size
 unfoldable pub push_answer : TxBuf → ℕ → ℕ → Answer
 push_answer b storage bytes =
-    lowest_of (door_of (not (sound_of b storage)) false false (not (is_packet_length bytes))) (when (ltb storage (used_of b + bytes)) TxBufFull Done)
+    lowest_of (door_of (not (sound_of b storage)) false false (not (is_packet_length bytes))) (when (ltb storage (used_of b + bytes)) (Err TxBufFull) done)
 
 abbrev pub push_answer_of : PushIn → Answer
 push_answer_of i = push_answer i.ring (length i.store) (length i.src)
@@ -41,7 +45,7 @@ push_answer_of i = push_answer i.ring (length i.store) (length i.src)
 -- the bytes stand from the head offset on, and the head has moved past them
 unfoldable pub push_done : PushIn → PushLeft
 push_done i = record {
-  answer = told Done;
+  answer = told done;
   ring = record { size = i.ring.size; head = wadd i.ring.head (length i.src); tail = i.ring.tail };
   store = runs i.store (i.ring.head % i.ring.size) i.src;
 }

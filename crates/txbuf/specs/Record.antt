@@ -1,10 +1,9 @@
 -- The ring's record (01, "The ring"): what is sound, what it holds, and the calls that only look at it. Assumes nothing.
 use Rattle.std.specs.Prelude.{ℕ, zero, suc, ◌%◌, ◌^◌, ◌<◌, ◌≡◌, Bool, ◌&&◌, List, [], ◌∷◌, get_or, leb, eqb}
-use Rattle.defs.specs.Answer.{Told, told, when_done}
+use Rattle.defs.specs.Answer.{Told, Answer, told, when_done}
 use Rattle.defs.specs.Limits.{is_ring_size}
 use Rattle.defs.specs.Ladder.{record_answer}
 use Rattle.defs.specs.Wrapping.{wsub}
-use Rattle.defs.specs.declared.answer.Answer.{Answer}
 use Rattle.txbuf.specs.declared.record.TxBuf.{TxBuf}
 
 -- how many bytes are held: head minus tail, 32-bit wrapping

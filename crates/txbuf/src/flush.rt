@@ -1,15 +1,15 @@
 // Flushing: the oldest bytes first, to a stream whose answers are handed in.
 ghost use Rattle.std.specs.Prelude.{◌≡◌, ◌+◌, ◌≤◌, length};
-ghost use Rattle.defs.specs.Answer.{told};
+ghost use Rattle.defs.specs.Answer.{told, answer_of};
 ghost use Rattle.defs.specs.Limits.{max_ring};
-ghost use Rattle.txbuf.specs.Flush.{first_piece, second_piece, advanced, finish_answer, finish_of, FlushIn, FlushLeft, FlushSays};
+ghost use Rattle.txbuf.specs.Flush.{first_piece, second_piece, advanced, finish_of, FlushIn, flushed_or, flush_seen, FlushSays};
 
 use crate::record::TxBuf;
-use defs::{Answer, StreamAnswer, StreamAnswers};
+use defs::{Refusal, StreamAnswer, StreamAnswers};
 
-#[derive(Clone, Copy)]
+// What a flush took: how many bytes, and the ring without them.
+#[derive(Clone, Copy, Debug, PartialEq, Eq)]
 pub struct Flushed {
-    pub answer: Answer,
     pub count: usize,
     pub ring: TxBuf,
 }
@@ -20,12 +20,12 @@ impl TxBuf {
     pub fn first_piece(self, storage: &[u8]) -> &[u8]
         ensures { result.now ≡ first_piece self storage.now }
     {
-        if self.is_sound_over(storage.len()) {
-            let at = (self.tail % self.size) as usize;
-            let end = at + defs::smaller(storage.len() - at, self.used() as usize);
-            return &storage[at..end];
+        if !self.is_sound_over(storage.len()) {
+            return &storage[..0];
         }
-        &storage[..0]
+        let at = (self.tail % self.size) as usize;
+        let end = at + (storage.len() - at).min(self.used() as usize);
+        &storage[at..end]
     }
 
     // The piece that a flush would offer next, were the first taken whole.
@@ -33,93 +33,85 @@ impl TxBuf {
         ensures { result.now ≡ second_piece self storage.now }
     {
         let first = self.first_piece(storage).len();
-        advance(self, first).first_piece(storage)
+        self.advanced(first).first_piece(storage)
     }
 
     // Flushes the ring. A piece that is taken whole is followed by a flush of what is left, whose
     // bytes go behind it; nothing is written before that has answered too.
-    pub fn flush_to(self, storage: &[u8], answers: StreamAnswers, out: &mut [u8]) -> Flushed
-        ensures { FlushSays (record { ring = self; store = storage.now; answers = answers; out = out.old }) (record { answer = told result.answer; count = result.count; ring = result.ring; out = out.new }) }
+    pub fn flush_to(
+        self,
+        storage: &[u8],
+        answers: StreamAnswers,
+        out: &mut [u8],
+    ) -> Result<Flushed, Refusal>
+        ensures { FlushSays (record { ring = self; store = storage.now; answers = answers; out = out.old }) (flush_seen self result out.new) }
     {
-        if self.is_sound_over(storage.len()) {
-            let piece = self.first_piece(storage);
-            if piece.len() == 0 {
-                return stopped(Answer::Done, self);
-            }
-            let first = answers.first;
-            let StreamAnswer::Count(count) = first else {
-                return stopped(defs::stopped_by(first), self);
-            };
-            if piece.len() < count {
-                return stopped(Answer::BadAnswer, self);
-            }
-            if count < piece.len() {
-                return finish(self, &piece[..count], stopped(Answer::Done, self), out);
-            }
-            let behind = defs::smaller(count, out.len());
-            let second = answers.second;
-            let left = StreamAnswers {
-                first: second,
-                second: StreamAnswer::WouldBlock,
-            };
-            let rest = advance(self, count).flush_to(storage, left, &mut out[behind..]);
-            return finish(self, piece, rest, out);
+        if !self.is_sound_over(storage.len()) {
+            return Err(Refusal::BadRecord);
         }
-        stopped(Answer::BadRecord, self)
+        let nothing = Flushed {
+            count: 0,
+            ring: self,
+        };
+        let piece = self.first_piece(storage);
+        if piece.is_empty() {
+            return Ok(nothing);
+        }
+        let StreamAnswer::Count(count) = answers.first else {
+            return answers.first.stopped_by().and(Ok(nothing));
+        };
+        if piece.len() < count {
+            return Err(Refusal::BadAnswer);
+        }
+        if count < piece.len() {
+            return self.finish(&piece[..count], Ok(nothing), out);
+        }
+        let behind = count.min(out.len());
+        let left = StreamAnswers {
+            first: answers.second,
+            second: StreamAnswer::WouldBlock,
+        };
+        let rest = self
+            .advanced(count)
+            .flush_to(storage, left, &mut out[behind..]);
+        self.finish(piece, rest, out)
     }
-}
 
-// A flush that took nothing.
-fn stopped(answer: Answer, ring: TxBuf) -> Flushed
-    ensures { result ≡ record { answer = answer; count = 0; ring = ring } }
-{
-    Flushed {
-        answer,
-        count: 0,
-        ring,
+    // The ring with so many bytes taken from its tail.
+    fn advanced(self, count: usize) -> TxBuf
+        requires { count ≤ max_ring }
+        ensures { result ≡ advanced self count }
+    {
+        let tail = self.tail.wrapping_add(count as u32);
+        TxBuf { tail, ..self }
     }
-}
 
-// The ring with so many bytes taken from its tail.
-fn advance(ring: TxBuf, count: usize) -> TxBuf
-    requires { count ≤ max_ring }
-    ensures { result ≡ advanced ring count }
-{
-    TxBuf {
-        size: ring.size,
-        head: ring.head,
-        tail: defs::wrapping_add(ring.tail, count as u32),
-    }
-}
-
-// A piece was taken, and `rest` tells of the flush of what was left, which wrote behind its place:
-// the piece goes to the front, unless the rest or the room forbids the whole flush.
-fn finish(ring: TxBuf, piece: &[u8], rest: Flushed, out: &mut [u8]) -> Flushed
-    requires { length piece.now + rest.count ≤ max_ring }
-    ensures { record { answer = told result.answer; count = result.count; ring = result.ring; out = out.new } ≡ finish_of ring piece.now (told rest.answer).number rest.count out.old }
-{
-    let of_rest = rest.answer;
-    let answer = finish_answer(of_rest, piece.len(), out.len());
-    let Answer::Done = answer else {
-        return stopped(answer, ring);
-    };
-    defs::copy(out, piece);
-    let count = piece.len() + rest.count;
-    Flushed {
-        answer,
-        count,
-        ring: advance(ring, count),
-    }
-}
-
-// A rest that was refused refuses the whole, and so does an `out` shorter than the piece.
-fn finish_answer(rest: Answer, bytes: usize, room: usize) -> Answer
-    ensures { result ≡ finish_answer (told rest).number bytes room }
-{
-    let short = room < bytes;
-    match rest {
-        Answer::BadAnswer => defs::late(true, short),
-        Answer::NoRoom => defs::late(false, true),
-        _ => defs::late(false, short),
+    // A piece was taken, and `rest` tells of the flush of what was left, which wrote behind its
+    // place: the piece goes to the front, unless the rest or the room forbids the whole flush.
+    fn finish(
+        self,
+        piece: &[u8],
+        rest: Result<Flushed, Refusal>,
+        out: &mut [u8],
+    ) -> Result<Flushed, Refusal>
+        requires { length piece.now + (flushed_or self rest).count ≤ max_ring }
+        ensures { flush_seen self result out.new ≡ finish_of self piece.now (told (answer_of rest)).number (flushed_or self rest).count out.old }
+    {
+        let more = match rest {
+            Ok(flushed) => flushed.count,
+            Err(refusal) => match refusal {
+                Refusal::BadAnswer | Refusal::NoRoom => return Err(refusal),
+                _ => 0,
+            },
+        };
+        if out.len() < piece.len() {
+            return Err(Refusal::NoRoom);
+        }
+        defs::copy(out, piece);
+        let count = piece.len() + more;
+        Ok(Flushed {
+            count,
+            ring: self.advanced(count),
+        })
     }
 }

@@ -7,5 +7,5 @@ mod push;
 mod record;
 
 pub use flush::Flushed;
-pub use push::{Pushed, vsock_ring_push};
+pub use push::vsock_ring_push;
 pub use record::{Opened, TxBuf};

@@ -1,37 +1,34 @@
 // Pushing: all of the bytes or none.
 ghost use Rattle.std.specs.Prelude.{◌≡◌, ◌<◌, length};
-ghost use Rattle.defs.specs.Answer.{told};
-ghost use Rattle.txbuf.specs.Push.{push_answer, runs, PushIn, PushLeft, PushSays, NumberedLeft, NumberedSays};
+ghost use Rattle.txbuf.specs.Push.{push_answer, runs, PushIn, push_seen, PushSays, NumberedLeft, NumberedSays};
 
 use crate::record::TxBuf;
-use defs::{Answer, limits};
-
-#[derive(Clone, Copy)]
-pub struct Pushed {
-    pub answer: Answer,
-    pub ring: TxBuf,
-}
+use defs::{Answer, Refusal, limits};
 
 impl TxBuf {
     // Pushes all of `src` onto the ring, or nothing.
-    pub fn push(self, storage: &mut [u8], src: &[u8]) -> Pushed
-        ensures { PushSays (record { ring = self; store = storage.old; src = src.now }) (record { answer = told result.answer; ring = result.ring; store = storage.new }) }
+    pub fn push(self, storage: &mut [u8], src: &[u8]) -> Result<TxBuf, Refusal>
+        ensures { PushSays (record { ring = self; store = storage.old; src = src.now }) (push_seen self result storage.new) }
     {
-        let answer = push_answer(self, storage.len(), src.len());
-        let Answer::Done = answer else {
-            return Pushed { answer, ring: self };
-        };
+        self.push_answer(storage.len(), src.len())?;
         let at = (self.head % self.size) as usize;
         write_runs(storage, at, src);
-        let head = defs::wrapping_add(self.head, src.len() as u32);
-        Pushed {
-            answer,
-            ring: TxBuf {
-                size: self.size,
-                head,
-                tail: self.tail,
-            },
+        let head = self.head.wrapping_add(src.len() as u32);
+        Ok(TxBuf { head, ..self })
+    }
+
+    // What a push of so many bytes is answered, over a storage of so many.
+    fn push_answer(self, storage: usize, bytes: usize) -> Answer
+        ensures { result ≡ push_answer self storage bytes }
+    {
+        let sound = self.is_sound_over(storage);
+        let short = limits::is_packet_length(bytes);
+        defs::door(!sound, false, false, !short)?;
+        let held = self.used() as usize;
+        if storage < held + bytes {
+            return Err(Refusal::TxBufFull);
         }
+        Ok(())
     }
 }
 
@@ -41,26 +38,7 @@ impl TxBuf {
 pub extern "C" fn vsock_ring_push(ring: TxBuf, storage: &mut [u8], src: &[u8]) -> u8
     ensures { NumberedSays (record { ring = ring; store = storage.old; src = src.now }) (record { number = result; store = storage.new }) }
 {
-    let pushed = ring.push(storage, src);
-    let answer = pushed.answer;
-    defs::number_of(answer)
-}
-
-// What a push of so many bytes is answered, over a storage of so many.
-fn push_answer(ring: TxBuf, storage: usize, bytes: usize) -> Answer
-    ensures { result ≡ push_answer ring storage bytes }
-{
-    let sound = ring.is_sound_over(storage);
-    let short = limits::is_packet_length(bytes);
-    let refusal = defs::door(!sound, false, false, !short);
-    let Answer::Done = refusal else {
-        return refusal;
-    };
-    let held = ring.used() as usize;
-    if storage < held + bytes {
-        return Answer::TxBufFull;
-    }
-    Answer::Done
+    defs::number_of(ring.push(storage, src).and(Ok(())))
 }
 
 // Writes `src` into the storage from an offset to its end, then what is left from its start.
@@ -68,7 +46,7 @@ fn write_runs(storage: &mut [u8], at: usize, src: &[u8])
     requires { at < length storage.old }
     ensures { storage.new ≡ runs storage.old at src.now }
 {
-    let first = defs::smaller(storage.len() - at, src.len());
+    let first = src.len().min(storage.len() - at);
     defs::copy(&mut storage[at..], src);
     defs::copy(storage, &src[first..]);
 }

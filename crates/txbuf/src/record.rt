@@ -1,21 +1,22 @@
 // The ring's record: what is sound, and how much it holds.
 ghost use Rattle.std.specs.Prelude.{◌≡◌};
 ghost use Rattle.defs.specs.Answer.{told};
-ghost use Rattle.defs.specs.Look.{FlagLeft, FlagSays, LenLeft, LenSays};
+ghost use Rattle.defs.specs.Look.{flag_seen, FlagSays, len_seen, LenSays};
 ghost use Rattle.txbuf.specs.Record.{used_of, sound_record, sound_of, is_empty, look_answer, NewLeft, NewSays};
 
-use defs::{Answer, Flag, Len, limits};
+use defs::{Answer, Refusal, limits};
 
 // Offsets into the storage are head and tail modulo the size; both only rise, and wrap at 2^32.
 #[repr(C)]
-#[derive(Clone, Copy)]
+#[derive(Clone, Copy, Debug, Default, PartialEq, Eq)]
 pub struct TxBuf {
     pub size: u32,
     pub head: u32,
     pub tail: u32,
 }
 
-#[derive(Clone, Copy)]
+// No Result: a refused opening gives a record too, the all-zero one.
+#[derive(Clone, Copy, Debug, PartialEq, Eq)]
 pub struct Opened {
     pub answer: Answer,
     pub ring: TxBuf,
@@ -27,34 +28,24 @@ impl TxBuf {
         ensures { NewSays size (record { answer = told result.answer; ring = result.ring }) }
     {
         let answer = defs::record_answer(limits::is_ring_size(size));
-        let Answer::Done = answer else {
-            return Opened {
-                answer,
-                ring: TxBuf {
-                    size: 0,
-                    head: 0,
-                    tail: 0,
-                },
-            };
+        let zero = TxBuf::default();
+        let ring = if answer.is_ok() {
+            TxBuf { size, ..zero }
+        } else {
+            zero
         };
-        Opened {
-            answer,
-            ring: TxBuf {
-                size,
-                head: 0,
-                tail: 0,
-            },
-        }
+        Opened { answer, ring }
     }
 
     // How many bytes a sound ring holds.
     pub fn used(self) -> u32
         ensures { result ≡ used_of self }
     {
-        defs::wrapping_sub(self.head, self.tail)
+        self.head.wrapping_sub(self.tail)
     }
 
     // Whether the record is sound, no storage being lent.
+    #[tactic(auto, unfolding(crate::specs::Record::sound_record))]
     pub fn is_sound(self) -> bool
         ensures { result ≡ sound_record self }
     {
@@ -62,21 +53,22 @@ impl TxBuf {
     }
 
     // Whether it is sound over a storage of so many bytes.
+    #[tactic(auto, unfolding(crate::specs::Record::sound_of))]
     pub fn is_sound_over(self, storage: usize) -> bool
         ensures { result ≡ sound_of self storage }
     {
         self.is_sound() & (storage == self.size as usize)
     }
 
-    pub fn len(self) -> Len
-        ensures { LenSays (look_answer self) (used_of self) (record { answer = told result.answer; len = result.len }) }
+    pub fn len(self) -> Result<usize, Refusal>
+        ensures { LenSays (look_answer self) (used_of self) (len_seen result) }
     {
-        defs::len_of(defs::record_answer(self.is_sound()), self.used() as usize)
+        defs::record_answer(self.is_sound()).and(Ok(self.used() as usize))
     }
 
-    pub fn is_empty(self) -> Flag
-        ensures { FlagSays (look_answer self) (is_empty self) (record { answer = told result.answer; holds = result.holds }) }
+    pub fn is_empty(self) -> Result<bool, Refusal>
+        ensures { FlagSays (look_answer self) (is_empty self) (flag_seen result) }
     {
-        defs::flag_of(defs::record_answer(self.is_sound()), self.used() == 0)
+        defs::record_answer(self.is_sound()).and(Ok(self.used() == 0))
     }
 }

@@ -1,33 +1,19 @@
-use mathlib.Core.Path.{◌≡◌, refl, ◌∙◌}
-use native.Mathlib.Omega.{arith}
-use borrow.Author.Rules.{rules}
-use lib.ListN.{length-set}
+use Rattle.std.proofs.Common.{◌≡◌, arith, take, length, ◌∙◌}
+use Rattle.std.proofs.lemmas.List.{length-take-le, take_all}
 use Rattle.text.specs.Hex.{hexed}
 use Rattle.text.proofs.HexLaws.{one_byte}
 use Rattle.text.proofs.hex.Goals as goal
 
-pub loop-i-init : goal.loop-i-init
-loop-i-init c = (search rules, refl, refl)
-
-pub digit-requires : goal.digit-requires
-digit-requires c = omega (arith, c.shared_slice_known-in-loop-i-1.given c.loop-i.i)
-
-pub bounds-out-i-in-loop-i : goal.bounds-out-i-in-loop-i
-bounds-out-i-in-loop-i c = simp length-set (omega arith)
-
 pub loop-i-preserved : goal.loop-i-preserved
 loop-i-preserved c =
-    let l = c in
-    let a = l.args in (
-      search rules,
-      simp length-set l.loop-i.invariant.1,
-      rw l.loop-i.invariant.2
-          (one_byte a.bytes.now a.out.now l.loop-i.i c.digit.result c.digit-in-loop-i.result (omega arith) (omega arith) c.digit.ensures c.digit-in-loop-i.ensures),
-    )
+    let items = take c.min-n.result c.args.bytes.now in
+    let n : length items ≡ c.min-n.result = length-take-le c.min-n.result c.args.bytes.now (omega arith) in
+    rw c.loop-i.invariant (one_byte items c.args.out.now c.loop-i.i c.digit.result c.digit-in-loop-i.result (omega arith) (omega arith) c.digit.ensures c.digit-in-loop-i.ensures)
 
 pub returns : goal.returns
 unfolding hexed
 returns c =
-    let l = c in
-    let n : l.loop-i.i ≡ l.smaller-n.result = omega arith in
-    l.loop-i.invariant.2 ∙ rw (n, l.smaller-n.ensures)
+    let items = take c.min-n.result c.args.bytes.now in
+    let n : length items ≡ c.min-n.result = length-take-le c.min-n.result c.args.bytes.now (omega arith) in
+    let i : c.loop-i.i ≡ c.min-n.result = omega arith in
+    c.loop-i.invariant ∙ rw (i, take_all c.min-n.result items (omega arith), c.min-n.ensures)

@@ -1,51 +1,46 @@
-use mathlib.Core.Path.{refl, ◌∙◌}
-use native.Mathlib.Omega.{arith}
-use lib.ListN.{length-set}
-use Rattle.conn_map.proofs.DistinctLaws.{takes_one, leaves_one, skips_one, all_gathered}
+use Rattle.std.proofs.Common.{rules, arith, ◌≡◌, ◌+◌, ◌<◌, ◌++◌, ◌∷◌, [], ap, sym, ◌∙◌, length, length-append, get_or}
+use Rattle.std.proofs.lemmas.Slice.Zip.{zip_turn}
+use Rattle.conn_map.specs.Distinct.{mark_of}
+use Rattle.conn_map.proofs.DistinctLaws.{none_gathered, takes_one, leaves_one, skips_one}
 use Rattle.conn_map.proofs.distinct.doubtful.Goals as goal
+use Rattle.conn_map.proofs.distinct.doubtful.Goals.{In-Some, else-is_used-ne0-via-then-is_used-ne0+else-marks-mark_of-eq-AGAIN, else-is_used-ne0-via-else-is_used-ne0}
 
-pub loop-i-init : goal.loop-i-init
-loop-i-init c = (omega arith, refl, refl)
+-- the ports and the use of the slot, which is one of the table's
+turn : (c : In-Some)
+    → (c.in-Some.key.now ≡ get_or c.args.ports.now (length c.loop-key.yielded) 0) × (c.in-Some.is_used.now ≡ get_or c.args.used.now (length c.loop-key.yielded) 0) × (length c.loop-key.yielded < length c.args.ports.now)
+turn c =
+    let z =
+    zip_turn c.args.ports.now c.args.used.now c.loop-key.yielded c.into_iter-key-iterator.result c.loop-key.key-iterator c.next.new.self c.next.result (search rules) (search rules) c.loop-key.yielded_by
+    (c.in-Some.key, c.in-Some.is_used) c.in-Some.is c.next.ensures.steps in
+    (z.2 0, z.3 0, z.0)
 
-pub bounds-ports-i : goal.bounds-ports-i
-bounds-ports-i c = omega arith
+pub loop-key-init : goal.loop-key-init
+loop-key-init c = (omega arith, none_gathered c.args.ports.now c.args.used.now c.args.marks.now c.args.keys.now)
 
-pub bounds-used-i : goal.bounds-used-i
-bounds-used-i c = omega arith
+pub loop-key-preserved-then-marks-mark_of-eq-AGAIN : goal.loop-key-preserved-then-marks-mark_of-eq-AGAIN
+loop-key-preserved-then-marks-mark_of-eq-AGAIN c =
+    let l = c.loop-key in
+    let of = c.mark_of in
+    let t = turn (goal.at.loop-key-preserved-then-marks-mark_of-eq-AGAIN c).In-Some in
+    let n : length (l.yielded ++ ((c.in-Some.key, c.in-Some.is_used) ∷ [])) ≡ length l.yielded + 1 = length-append _ _ in
+    let u : get_or c.args.used.now (length l.yielded) 0 ≡ 0 → ⊥ = λ z. c.if-is_used-ne0.true (t.1 ∙ z) in
+    let m : l.n < length l.keys = omega (arith, t.2) in
+    rw n (
+      omega arith,
+      rw t.0
+          (takes_one _ _ c.args.marks.now (length l.yielded) l.keys l.n l.invariant.1 u of.result (of.ensures.0 ∙ ap mark_of t.0) m c.if-marks-mark_of-eq-AGAIN.true),
+    )
 
-pub bounds-marks-h : goal.bounds-marks-h
-bounds-marks-h c = c.mark_of-h.ensures.1
-
-pub bounds-keys-n : goal.bounds-keys-n
-bounds-keys-n c = omega arith
-
-pub loop-i-smaller-then-marks-h-eq-AGAIN : goal.loop-i-smaller-then-marks-h-eq-AGAIN
-loop-i-smaller-then-marks-h-eq-AGAIN c = omega arith
-
-pub loop-i-preserved-then-marks-h-eq-AGAIN : goal.loop-i-preserved-then-marks-h-eq-AGAIN
-loop-i-preserved-then-marks-h-eq-AGAIN c =
-    let of = c.mark_of-h in
-    let l = c.loop-i in
-    (omega arith, length-set l.keys _ _ ∙ l.invariant.1, takes_one _ _ _ l.i (omega arith) l.keys l.n _ l.invariant.2 c.if-used-i-ne0.true of.result of.ensures.0 (omega arith) c.if-marks-h-eq-AGAIN.true)
-
-pub loop-i-smaller-else-marks-h-eq-AGAIN : goal.loop-i-smaller-else-marks-h-eq-AGAIN
-loop-i-smaller-else-marks-h-eq-AGAIN c = omega arith
-
-pub loop-i-preserved-else-marks-h-eq-AGAIN : goal.loop-i-preserved-else-marks-h-eq-AGAIN
-loop-i-preserved-else-marks-h-eq-AGAIN c =
-    let of = c.mark_of-h in
-    let l = c.loop-i in
-    (omega arith, l.invariant.1, leaves_one _ _ _ l.i (omega arith) l.keys l.n _ l.invariant.2 c.if-used-i-ne0.true of.result of.ensures.0 c.if-marks-h-eq-AGAIN.false)
-
-pub loop-i-smaller : goal.loop-i-smaller
-loop-i-smaller c = omega arith
-
-pub loop-i-preserved : goal.loop-i-preserved
-loop-i-preserved c =
-    let l = c.loop-i in
-    (omega arith, l.invariant.1, skips_one _ _ _ l.i (omega arith) l.keys l.n _ l.invariant.2 c.if-used-i-ne0.false)
-
-pub returns : goal.returns
-returns c =
-    let l = c.loop-i in
-    (omega arith, all_gathered _ _ _ l.i l.keys l.n _ (omega arith) l.invariant.2)
+pub loop-key-preserved : goal.loop-key-preserved
+loop-key-preserved c =
+    let l = c.loop-key in
+    let t = turn (goal.at.loop-key-preserved c).In-Some in
+    let n : length (l.yielded ++ ((c.in-Some.key, c.in-Some.is_used) ∷ [])) ≡ length l.yielded + 1 = length-append _ _ in
+    rw n (
+      omega arith,
+      elim c.else-is_used-ne0.branch [
+        | else-is_used-ne0-via-then-is_used-ne0+else-marks-mark_of-eq-AGAIN w ↦
+            leaves_one _ _ c.args.marks.now (length l.yielded) l.keys l.n l.invariant.1 (λ z. w.if-is_used-ne0.true (t.1 ∙ z)) w.mark_of.result (w.mark_of.ensures.0 ∙ ap mark_of t.0) w.if-marks-mark_of-eq-AGAIN.false
+        | else-is_used-ne0-via-else-is_used-ne0 w ↦ skips_one _ _ c.args.marks.now (length l.yielded) l.keys l.n l.invariant.1 (sym t.1 ∙ w.if-is_used-ne0.false)
+      ],
+    )

@@ -1,16 +1,11 @@
--- `absorb` meets its contract, by case.
-use Rattle.defs.specs.Choice.{when}
-use Rattle.rules.specs.Notify.{absorbed}
-use Rattle.connection.proofs.NotifyLaws.{not_absorbed}
+use Rattle.connection.proofs.NotifyLaws.{absorbed_stop, not_absorbed, done_absorbed}
 use Rattle.connection.proofs.event.absorb.Goals as goal
 
-pub returns-in-StreamBlocked : goal.returns-in-StreamBlocked
-unfolding absorbed when
-returns-in-StreamBlocked c = rw c.in-StreamBlocked.is
+pub returns-in-Ok-clause-answer : goal.returns-in-Ok-clause-answer
+returns-in-Ok-clause-answer c = rw c.in-Ok.is done_absorbed
 
-pub returns-in-StreamFailed : goal.returns-in-StreamFailed
-unfolding absorbed when
-returns-in-StreamFailed c = rw c.in-StreamFailed.is
+pub returns-in-StreamBlocked-clause-answer : goal.returns-in-StreamBlocked-clause-answer
+returns-in-StreamBlocked-clause-answer c = rw c.in-Err.is (absorbed_stop _ c.in-StreamBlocked.is)
 
-pub returns-in_default : goal.returns-in_default
-returns-in_default c = not_absorbed c.args.answer c.in_default.not-StreamBlocked c.in_default.not-StreamFailed
+pub returns-in_default-clause-answer : goal.returns-in_default-clause-answer
+returns-in_default-clause-answer c = rw c.in-Err.is (not_absorbed _ c.in_default.not-StreamBlocked c.in_default.not-StreamFailed)

@@ -1,13 +1,10 @@
-use mathlib.Core.Path.{ap, ◌∙◌}
+use Rattle.std.proofs.Common.{ap, ◌∙◌}
+use Rattle.std.specs.Prelude.{None}
 use Rattle.defs.specs.Ladder.{record_answer}
-use Rattle.defs.proofs.AnswerLaws.{outcome_kept, outcome_done}
+use Rattle.defs.proofs.AnswerLaws.{result_left}
 use Rattle.rules.specs.Look.{expiry_of}
 use Rattle.connection.proofs.look.expiry.Goals as goal
 
-pub returns-in_default : goal.returns-in_default
-unfolding expiry_of
-returns-in_default c = outcome_kept (λ t x. record { answer = t; expiry = x }) _ _ _ _ (c.record_answer-answer.ensures ∙ ap record_answer c.is_sound.ensures) c.in_default.not-Done
-
 pub returns : goal.returns
 unfolding expiry_of
-returns c = outcome_done (λ t x. record { answer = t; expiry = x }) _ _ _ _ (c.record_answer-answer.ensures ∙ ap record_answer c.is_sound.ensures) c.in-Done.is
+returns c = result_left (λ t x. record { answer = t; expiry = x }) None _ _ _ _ c.and.ensures (c.record_answer.ensures ∙ ap record_answer c.is_sound.ensures)

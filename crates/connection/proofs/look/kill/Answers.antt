@@ -1,13 +1,11 @@
-use mathlib.Core.Path.{ap, ◌∙◌}
+use Rattle.std.proofs.Common.{ap, ◌∙◌}
 use Rattle.defs.specs.Ladder.{record_answer}
-use Rattle.defs.proofs.AnswerLaws.{outcome_kept, outcome_done}
+use Rattle.defs.proofs.AnswerLaws.{result_left}
 use Rattle.rules.specs.Look.{kill_of}
 use Rattle.connection.proofs.look.kill.Goals as goal
 
-pub returns-in_default : goal.returns-in_default
-unfolding kill_of
-returns-in_default c = outcome_kept (λ t x. record { answer = t; conn = x }) _ _ _ _ (c.record_answer-answer.ensures ∙ ap record_answer c.is_sound.ensures) c.in_default.not-Done
-
 pub returns : goal.returns
 unfolding kill_of
-returns c = rw c.killed.ensures (outcome_done (λ t x. record { answer = t; conn = x }) _ _ _ _ (c.record_answer-answer.ensures ∙ ap record_answer c.is_sound.ensures) c.in-Done.is)
+returns c =
+    rw (← c.killed.ensures)
+    (result_left (λ t x. record { answer = t; conn = x }) c.args.conn _ _ _ _ c.and.ensures (c.record_answer.ensures ∙ ap record_answer c.is_sound.ensures))

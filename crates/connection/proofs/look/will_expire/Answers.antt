@@ -1,10 +1,7 @@
-use mathlib.Core.Path.{ap, ◌∙◌}
-use mathlib.Core.Bool.{Bool}
+use Rattle.std.proofs.Common.{ap, ◌∙◌}
 use Rattle.defs.specs.Ladder.{clock_answer}
-use Rattle.defs.proofs.LookLaws.{flag_told}
+use Rattle.defs.proofs.LookLaws.{flag_said, flag_told}
 use Rattle.connection.proofs.look.will_expire.Goals as goal
 
 pub returns : goal.returns
-returns c =
-    let a = c in
-    flag_told _ _ _ _ _ c.flag_of.ensures (a.clock_answer.ensures ∙ ap (λ (b : Bool). clock_answer b a.args.now_ms) a.is_sound.ensures) (λ d. c.is_after.ensures)
+returns c = flag_told _ _ _ _ _ (flag_said _ _ _ c.and.ensures) (c.clock_answer.ensures ∙ ap (λ b. clock_answer b c.args.now_ms) c.is_sound.ensures) (λ d. c.is_after.ensures)

@@ -1,9 +1,9 @@
-use Rattle.connection.proofs.OfferLaws.{is_flushing}
-use Rattle.connection.proofs.NotifyLaws.{notify_door_lem}
+use Rattle.std.proofs.Common.{sym, ◌∙◌}
+use Rattle.connection.proofs.OfferLaws.{flushes_by, no_flush}
 use Rattle.connection.proofs.offer.flushes.Goals as goal
 
-pub returns : goal.returns
-returns c =
-    let q = c in
-    let d = q in
-    is_flushing _ _ _ _ _ _ (notify_door_lem _ _ _ _ d.record_answer-door.ensures d.is_sound_over.ensures) c.is_open.ensures q.is_flush_due-due.ensures
+pub returns-then-is_sound_over : goal.returns-then-is_sound_over
+returns-then-is_sound_over c = c.is_flush_due.ensures ∙ flushes_by _ _ _ (sym c.is_sound_over.ensures ∙ c.if-is_sound_over.true)
+
+pub returns-else-is_sound_over : goal.returns-else-is_sound_over
+returns-else-is_sound_over c = c.if-is_sound_over.false ∙ no_flush _ _ _ (sym c.is_sound_over.ensures ∙ c.if-is_sound_over.false)

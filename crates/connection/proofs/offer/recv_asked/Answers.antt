@@ -1,14 +1,10 @@
-use Prim.Native.Nat.{ℕ, min}
-use mathlib.Core.Path.{ap, ◌∙◌}
-use lib.ListN.{length}
-use Rattle.connection.proofs.OfferLaws.{asks}
+use Rattle.std.proofs.lemmas.Result.{err_from_is_err_and}
+use Rattle.connection.proofs.OfferLaws.{asks, asks_not}
 use Rattle.connection.proofs.offer.recv_asked.Goals as goal
 
+pub returns-in_err-door_of : goal.returns-in_err-door_of
+returns-in_err-door_of c =
+    let p = err_from_is_err_and c.from_residual.result c.from_residual.ensures.1 in rw (p.1, p.2) (asks_not _ _ _ _ _ _ c.in_err-door_of.ensures)
+
 pub returns : goal.returns
-returns c =
-    let m = c in
-    let k = m in
-    let t = k in
-    let o = t in
-    let a = o.args in
-    asks _ _ _ _ _ _ _ _ _ _ o.door_of-door.ensures o.is_open.ensures t.reads.ensures (m.smaller-asked.ensures ∙ ap (λ (x : ℕ). min (length a.buf.now) x) k.credit.ensures) c.choose.ensures
+returns c = asks _ _ _ _ _ _ _ _ c.in_ok-door_of.ensures c.reads.ensures (rw c.credit.ensures at c.min-asked.ensures) c.then_some.ensures

@@ -1,19 +1,10 @@
-use Rattle.packet.proofs.Callers.{header_is, no_header}
-use Rattle.connection.proofs.OfferLaws.{no_write, writes}
+use Rattle.std.proofs.Common.{◌∙◌}
+use Rattle.defs.proofs.AnswerLaws.{result_ok, result_err}
+use Rattle.connection.proofs.OfferLaws.{writes_in, no_write}
 use Rattle.connection.proofs.offer.send_writes.Goals as goal
 
-pub returns-in_default : goal.returns-in_default
-returns-in_default c =
-    let d = c in
-    no_write _ _ _ _ _ _ (no_header _ (rw c.in_default.is at d.decode.ensures))
+pub returns-in-Ok : goal.returns-in-Ok
+returns-in-Ok c = c.writes.ensures ∙ writes_in _ _ _ _ _ _ _ (result_ok _ _ _ c.in-Ok.ensures)
 
-pub returns : goal.returns
-returns c =
-    let q = c in
-    let g = q in
-    let p = g in
-    let s = p in
-    let k = s in
-    let d = k in
-    writes _ _ _ _ _ _ _ _ _ _ _ _ p.door_past_header-door.ensures s.is_sound_over-sound.ensures (header_is _ _ (rw k.in-Header.is at d.decode.ensures))
-    c.is_open.ensures g.goes.ensures q.is_quiet.ensures
+pub returns-in-Err : goal.returns-in-Err
+returns-in-Err c = no_write _ _ _ _ _ _ _ (result_err _ _ _ c.in-Err.ensures)

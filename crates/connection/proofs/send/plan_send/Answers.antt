@@ -1,19 +1,17 @@
--- `plan_send` meets its contract: of an answer that counts, and of one that blocks or fails.
-use Rattle.connection.proofs.SendLaws.{plan_counted, plan_stopped}
+use Rattle.std.proofs.Common.{sym, ◌∙◌}
+use Rattle.connection.proofs.SendLaws.{plan_none, plan_held, plan_stopped, plan_counted}
 use Rattle.connection.proofs.send.plan_send.Goals as goal
+
+pub returns-then-not-goes : goal.returns-then-not-goes
+returns-then-not-goes c = plan_none _ _ _ _ (sym c.goes.ensures ∙ c.if-not-goes.true)
+
+pub returns-then-not-is_quiet : goal.returns-then-not-is_quiet
+returns-then-not-is_quiet c = plan_held _ _ _ _ (sym c.goes.ensures ∙ c.if-not-goes.false) (sym c.is_quiet.ensures ∙ c.if-not-is_quiet.true)
 
 pub returns-in_default : goal.returns-in_default
 returns-in_default c =
-    let m = c in
-    let l = m in
-    let q = l in
-    let a = q.args in
-    plan_stopped a.conn a.pkt a.present a.answer _ _ _ _ m.in_default.not-Count q.goes-goes.ensures q.is_quiet.ensures l.choose-len.ensures c.has_failed.ensures
+    rw c.has_failed.ensures
+    (plan_stopped _ _ _ _ (sym c.goes.ensures ∙ c.if-not-goes.false) (sym c.is_quiet.ensures ∙ c.if-not-is_quiet.false) c.in_default.not-Count)
 
 pub returns : goal.returns
-returns c =
-    let n = c in
-    let l = n in
-    let q = l in
-    let a = q.args in
-    plan_counted a.conn a.pkt a.present a.answer _ _ _ _ _ n.in-Count.is q.goes-goes.ensures q.is_quiet.ensures l.choose-len.ensures c.choose.ensures
+returns c = plan_counted _ _ _ _ _ (sym c.goes.ensures ∙ c.if-not-goes.false) (sym c.is_quiet.ensures ∙ c.if-not-is_quiet.false) c.in-Count.is

@@ -15,4 +15,4 @@ pub returns : goal.returns
 returns c =
     let s = c in
     let a = s.args in
-    rw c.copy_whole.ensures (copied_least a.dst.now a.src.now s.smaller-n.result s.smaller-n.ensures)
+    rw c.copy_whole.ensures (copied_least a.dst.now a.src.now s.min-n.result s.min-n.ensures)

@@ -14,7 +14,7 @@ loop-at-preserved c =
     let s = r in
     let l = s.loop-at in
     let start = s in
-    let run = one_run l.dst start.args.src.now r.copy_run.new.dst l.at (l.at + s.smaller.result) (omega arith) (omega arith) (omega arith) r.copy_run.ensures l.invariant.2 in
+    let run = one_run l.dst start.args.src.now r.copy_run.new.dst l.at (l.at + s.min.result) (omega arith) (omega arith) (omega arith) r.copy_run.ensures l.invariant.2 in
     (omega arith, run.0 ∙ l.invariant.1, run.1)
 
 pub returns : goal.returns

@@ -1,45 +1,40 @@
-use mathlib.Core.Path.{sym, ◌∙◌}
-use native.Mathlib.Omega.{arith}
-use Rattle.conn_map.proofs.TableLaws.{rest_end}
-use Rattle.queue.proofs.WalkLaws.{walk_end, walk_skip, walk_full, walk_room, walk_take}
-use Rattle.muxer_rxq.specs.Build.{built_from}
+use Rattle.std.proofs.Common.{rules, ◌∙◌, ap, ℕ}
+use borrow.Author.Tests.{tests}
+use Rattle.std.proofs.lemmas.Iterator.{YieldsList-from_slice, YieldsList-from_zip, YieldsList-from_map}
+use Rattle.std.proofs.lemmas.Iterator.Consumers.{YieldsList-at, YieldsList-from_filter}
+use Rattle.conn_map.proofs.TableLaws.{slot_in}
+use Rattle.queue.specs.Fill.{with_in, filled}
+use Rattle.queue.proofs.FillLaws.{filled_none, filled_more, took_all}
+use Rattle.muxer_rxq.specs.Queue.{rxq, MuxerRxQ}
+use Rattle.muxer_rxq.specs.Build.{is_pending, item_of, built_from}
+use Rattle.muxer_rxq.proofs.BuildLaws.{gathers}
 use Rattle.muxer_rxq.proofs.QueueLaws.{lawful}
-use Rattle.muxer_rxq.proofs.BuildLaws.{kept_start, comes, passes}
 use Rattle.muxer_rxq.proofs.build.walk.Goals as goal
 
-pub loop-i-init : goal.loop-i-init
-loop-i-init c = (omega arith, kept_start _ _ _ _ _ c.empty-queue.ensures)
+pub loop-item-init : goal.loop-item-init
+loop-item-init c = c.empty-queue.ensures ∙ filled_none rxq lawful c.args.limit c.requires.0
 
-pub returns-then-at-limit : goal.returns-then-at-limit
-unfolding built_from
-returns-then-at-limit c =
-    walk_full lawful _ _ _ _ c.loop-i.i c.loop-i.invariant.1 _
-    (comes _ _ _ c.loop-i.i c.loop-i-test.true (sym c.is_marked-pends.ensures ∙ c.if-pends.true)) c.if-at-limit.true
-
--- where the limit is not reached, the place behind the items is one of the array's
-pub bounds-queue-at : goal.bounds-queue-at
-bounds-queue-at c =
-    omega (arith, walk_room lawful _ _ _ _ c.loop-i.i c.loop-i.invariant.1 _ (comes _ _ _ c.loop-i.i c.loop-i-test.true (sym c.is_marked-pends.ensures ∙ c.if-pends.true)) c.if-at-limit.false)
-
-pub offset_bounds-queue-at : goal.offset_bounds-queue-at
-offset_bounds-queue-at c =
-    omega (arith, walk_room lawful _ _ _ _ c.loop-i.i c.loop-i.invariant.1 _ (comes _ _ _ c.loop-i.i c.loop-i-test.true (sym c.is_marked-pends.ensures ∙ c.if-pends.true)) c.if-at-limit.false)
-
-pub overflow_add-queue : goal.overflow_add-queue
-overflow_add-queue c =
-    omega (arith, walk_room lawful _ _ _ _ c.loop-i.i c.loop-i.invariant.1 _ (comes _ _ _ c.loop-i.i c.loop-i-test.true (sym c.is_marked-pends.ensures ∙ c.if-pends.true)) c.if-at-limit.false)
-
-pub loop-i-preserved-then-pends : goal.loop-i-preserved-then-pends
-loop-i-preserved-then-pends c = (
-  omega arith,
-  walk_take lawful _ _ _ _ c.loop-i.i c.loop-i.invariant.1 _
-      (comes _ _ _ c.loop-i.i c.loop-i-test.true (sym c.is_marked-pends.ensures ∙ c.if-pends.true)) c.if-at-limit.false _ c.connection-item.ensures (omega arith),
-)
-
-pub loop-i-preserved : goal.loop-i-preserved
-loop-i-preserved c =
-    (omega arith, walk_skip lawful _ _ _ _ c.loop-i.i c.loop-i.invariant.1 (passes _ _ _ c.loop-i.i c.loop-i-test.true (sym c.is_marked-pends.ensures ∙ c.if-pends.false)))
+pub loop-item-preserved : goal.loop-item-preserved
+loop-item-preserved c =
+    c.take_in.ensures
+    ∙ ap (λ (q : MuxerRxQ). with_in rxq c.in-Some.item q) c.loop-item.invariant
+    ∙ filled_more rxq lawful c.args.limit c.requires.0 c.loop-item.yielded c.in-Some.item
 
 pub returns : goal.returns
 unfolding built_from
-returns c = walk_end lawful _ _ _ _ c.loop-i.i c.loop-i.invariant.1 (rest_end _ _ _ _ _ c.loop-i.i c.loop-i-test.false)
+returns c =
+    c.loop-item.invariant
+    ∙ ap (filled rxq c.args.limit)
+    (took_all c.loop-item.item-iterator c.next.new.self c.loop-item.yielded_by c.in-None.is c.next.ensures.steps
+    (YieldsList-at c.into_iter-item-iterator.ensures.into_iter_gives
+    (YieldsList-from_map _ (λ (s : (ℕ × ℕ) × ℕ). item_of (slot_in s))
+    (YieldsList-at c.map-item-items.ensures.source
+    (YieldsList-from_filter _ (λ (s : (ℕ × ℕ) × ℕ). is_pending (slot_in s))
+    (YieldsList-at c.filter.ensures.source
+    (YieldsList-from_zip
+    (YieldsList-at c.zip-2.ensures.first
+    (YieldsList-from_zip (YieldsList-at c.zip.ensures.first (YieldsList-from_slice c.args.ports.now c.iter.ensures.rest)) (YieldsList-from_slice {s = c.zip.result.b} c.args.used.now c.zip.ensures.second.0)))
+    (YieldsList-from_slice {s = c.zip-2.result.b} c.args.pending.now c.zip-2.ensures.second.0)))
+    c.filter.ensures.closure (λ x b q k. search (rules, tests))))
+    c.map-item-items.ensures.closure (λ x r q k. search (rules, tests))))
+    ∙ gathers _ _ _ c.requires.1 c.requires.2)

@@ -1,39 +1,29 @@
-use mathlib.Core.Path.{◌≡◌}
-use native.Mathlib.Omega.{arith}
-use borrow.Author.Rules.{rules}
-use lib.ListN.{length}
+use Rattle.std.proofs.Common.{rules, arith, ◌≡◌, length}
 use Rattle.defs.specs.Limits.{max_rxq}
-use Rattle.queue.proofs.PlacesLaws.{long}
-use Rattle.queue.proofs.QueueLaws.{sound_says}
+use Rattle.queue.proofs.QueueLaws.{Sound, sound_past}
+use Rattle.queue.proofs.QueuedLaws.{push_kept_lem, push_laid}
 use Rattle.muxer_rxq.specs.Queue.{rxq}
+use Rattle.muxer_rxq.specs.Push.{evict_list}
 use Rattle.muxer_rxq.proofs.QueueLaws.{lawful}
-use Rattle.muxer_rxq.proofs.PushLaws.{evict_none, evict_some, evict_at}
+use Rattle.muxer_rxq.proofs.PushLaws.{evict_none, evict_some}
 use Rattle.muxer_rxq.proofs.push.evict.Goals as goal
+use Rattle.muxer_rxq.proofs.push.evict.Goals.{In-Ok}
 
-pub rearmost-found-requires : goal.rearmost-found-requires
-rearmost-found-requires c =
-    let n : length c.args.queue.q ≡ max_rxq = search (rules, long) in
-    let u = sound_says rxq lawful c.args.queue n c.requires in
-    omega (arith, u.most, u.within)
+sound : (c : In-Ok) → Sound rxq c.args.queue
+sound c = let n : length c.args.queue.q ≡ max_rxq = search rules in sound_past rxq lawful c.args.queue _ c.answer-answer.ensures c.in-Ok.is n
 
-pub returns-then-found-eq0 : goal.returns-then-found-eq0
-returns-then-found-eq0 c =
-    let n : length c.args.queue.q ≡ max_rxq = search (rules, long) in
-    evict_none _ _ _ c.rearmost-found.ensures (sound_says rxq lawful c.args.queue n c.requires) c.if-found-eq0.true
+pub returns-in_default : goal.returns-in_default
+returns-in_default c = push_kept_lem lawful _ _ _ c.answer-answer.ensures (c.in_default.not-Ok tt)
 
-pub bounds-next-at : goal.bounds-next-at
-bounds-next-at c =
-    let n : length c.args.queue.q ≡ max_rxq = search (rules, long) in
-    let u = sound_says rxq lawful c.args.queue n c.requires in
-    omega (arith, u.most, u.within, evict_at c.args.queue c.args.rst _ c.rearmost-found.ensures u c.if-found-eq0.false)
+pub shared_ref_as_front-rearmost : goal.shared_ref_as_front-rearmost
+shared_ref_as_front-rearmost c = let s = sound (goal.at.shared_ref_as_front-rearmost c).In-Ok in omega (arith, s.most, s.within)
 
-pub offset_bounds-next-at : goal.offset_bounds-next-at
-offset_bounds-next-at c =
-    let n : length c.args.queue.q ≡ max_rxq = search (rules, long) in
-    let u = sound_says rxq lawful c.args.queue n c.requires in
-    omega (arith, u.most, u.within, evict_at c.args.queue c.args.rst _ c.rearmost-found.ensures u c.if-found-eq0.false)
+pub returns-in_default-rearmost : goal.returns-in_default-rearmost
+returns-in_default-rearmost c =
+    push_laid lawful (λ l limit synced. evict_list c.args.rst l synced) _ _ c.answer-answer.ensures c.in-Ok.is _
+    (evict_none c.args.queue c.args.rst (sound (goal.at.returns-in_default-rearmost c).In-Ok) c.in_default-rearmost.ensures)
 
 pub returns : goal.returns
 returns c =
-    let n : length c.args.queue.q ≡ max_rxq = search (rules, long) in
-    evict_some _ _ _ c.rearmost-found.ensures (sound_says rxq lawful c.args.queue n c.requires) c.if-found-eq0.false
+    push_laid lawful (λ l limit synced. evict_list c.args.rst l synced) _ _ c.answer-answer.ensures c.in-Ok.is _
+    (rw c.in-Ok.is (evict_some c.args.queue c.args.rst (sound (goal.at.returns c).In-Ok) c.in-Some.at c.in-Some.ensures))

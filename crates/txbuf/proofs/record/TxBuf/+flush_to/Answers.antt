@@ -1,11 +1,9 @@
-use Rattle.std.proofs.Common.{◌≡◌, ◌<◌, ◌≤◌, ℕ, length, take, sym, ap, ◌∙◌, arith}
+use Rattle.std.proofs.Common.{eqb, eq-eqb, eqb-true, false, ◌≡◌, ◌<◌, ◌≤◌, ℕ, length, take, sym, ap, ◌∙◌, arith}
 use lib.ListN.{length-take}
-use Rattle.defs.specs.Answer.{told}
 use Rattle.defs.specs.Stream.{counted}
-use Rattle.defs.specs.declared.answer.Answer.TheVariants.{Done, BadRecord, BadAnswer}
+use Rattle.defs.proofs.Basics.{never}
 use Rattle.txbuf.specs.Record.{Wide, used_of}
-use Rattle.txbuf.specs.Flush.{piece_len, FlushIn, finish_of}
-use Rattle.txbuf.specs.declared.flush.Flushed.{Flushed}
+use Rattle.txbuf.specs.Flush.{piece_len, FlushIn}
 use Rattle.txbuf.proofs.RecordLaws.{Fit, sound_says}
 use Rattle.txbuf.proofs.FlushLaws.{piece_length, nothing_held, something_held, stopped_left, flush_unsound, flush_empty, flush_stops, flush_bad, flush_short, whole_left, held_falls, rest_small, count_small}
 use Rattle.txbuf.proofs.record.TxBuf.+flush_to.Goals as goal
@@ -16,48 +14,46 @@ abbrev given : (t : ℕ) → After-first_piece-piece t → FlushIn
 given t f = record { ring = f.args.self; store = f.args.storage.now; answers = f.args.answers; out = f.args.out.now }
 
 fit : (t : ℕ) (f : After-first_piece-piece t) → Fit (given t f).ring (length (given t f).store)
-fit t f = sound_says _ _ (sym f.is_sound_over.ensures ∙ f.if-is_sound_over.true)
+fit t f = sound_says _ _ (sym f.if-not-is_sound_over.ensures)
 
 wide : (t : ℕ) (f : After-first_piece-piece t) → Wide (given t f).ring
 wide t f = record { head = omega (arith, f); tail = omega (arith, f) }
 
-some : (t : ℕ) (f : After-first_piece-piece t) → (length f.first_piece-piece.result.now ≡ 0 → ⊥) → 0 < used_of (given t f).ring
-some t f n = something_held _ _ (fit t f) (wide t f) (λ e. n (ap length f.first_piece-piece.ensures ∙ e))
+some : (t : ℕ) (f : After-first_piece-piece t) → false ≡ eqb (length f.first_piece-piece.result.now) 0 → 0 < used_of (given t f).ring
+some t f n = something_held _ _ (fit t f) (wide t f) (λ e. never (n ∙ eq-eqb _ 0 (ap length f.first_piece-piece.ensures ∙ e)))
 
 piece_len_lem : (t : ℕ) (f : After-first_piece-piece t) → length f.first_piece-piece.result.now ≡ piece_len (given t f).ring.size (given t f).ring.tail (used_of (given t f).ring)
 piece_len_lem t f = ap length f.first_piece-piece.ensures ∙ piece_length _ _ (fit t f) (wide t f)
 
-pub returns : goal.returns
-returns t c =
+pub returns-then-not-is_sound_over : goal.returns-then-not-is_sound_over
+returns-then-not-is_sound_over t c =
     let a = c.args in
-    let i : FlushIn = record { ring = a.self; store = a.storage.now; answers = a.answers; out = a.out.now } in
-    stopped_left i BadRecord _ c.stopped-2.ensures (flush_unsound i (sym c.is_sound_over.ensures ∙ c.if-is_sound_over.false))
+    flush_unsound (record { ring = a.self; store = a.storage.now; answers = a.answers; out = a.out.now }) (sym c.if-not-is_sound_over.ensures)
 
-pub returns-then-piece-eq0 : goal.returns-then-piece-eq0
-returns-then-piece-eq0 t c =
-    let f = (goal.at.returns-then-piece-eq0 t c).After-first_piece-piece in
-    let e = nothing_held _ _ (fit t f) (wide t f) (sym (ap length f.first_piece-piece.ensures) ∙ c.if-piece-eq0.true) in
-    stopped_left (given t f) Done _ c.stopped.ensures (flush_empty (given t f) (fit t f) (wide t f) e)
+pub returns-then-is_empty : goal.returns-then-is_empty
+returns-then-is_empty t c =
+    let f = (goal.at.returns-then-is_empty t c).After-first_piece-piece in
+    let e = nothing_held _ _ (fit t f) (wide t f) (sym (ap length f.first_piece-piece.ensures) ∙ eqb-true _ 0 (sym c.if-is_empty.ensures)) in
+    flush_empty (given t f) (fit t f) (wide t f) e
 
 pub returns-in_default : goal.returns-in_default
 returns-in_default t c =
     let f = (goal.at.returns-in_default t c).After-first_piece-piece in
-    stopped_left (given t f) _ _ c.stopped-in_default.ensures
-    (rw c.stopped_by.ensures (flush_stops (given t f) (fit t f) (wide t f) (some t f c.if-piece-eq0.false) c.in_default.not-Count))
+    stopped_left (given t f) _ _ (c.and.ensures ∙ rw c.stopped_by.ensures) (flush_stops (given t f) (fit t f) (wide t f) (some t f c.if-is_empty.ensures) c.in_default.not-Count)
 
 pub returns-then-piece-count : goal.returns-then-piece-count
 returns-then-piece-count t c =
     let f = (goal.at.returns-then-piece-count t c).After-first_piece-piece in
     let l : piece_len (given t f).ring.size (given t f).ring.tail (used_of (given t f).ring) < counted (given t f).answers.first =
     let e = ap counted c.in-Count.is in let p = piece_len_lem t f in let m = c.if-piece-count.true in omega arith in
-    stopped_left (given t f) BadAnswer _ c.stopped-then-piece-count.ensures (flush_bad (given t f) (fit t f) (wide t f) (some t f c.if-piece-eq0.false) l)
+    flush_bad (given t f) (fit t f) (wide t f) (some t f c.if-is_empty.ensures) l
 
 pub finish-requires : goal.finish-requires
 finish-requires t c =
     let f = (goal.at.finish-requires t c).After-first_piece-piece in
     let p = piece_len_lem t f in
     let s = fit t f in
-    rw c.stopped-then-count-piece.ensures (simp length-take (omega arith))
+    simp length-take (omega arith)
 
 pub returns-then-count-piece : goal.returns-then-count-piece
 returns-then-count-piece t c =
@@ -65,17 +61,16 @@ returns-then-count-piece t c =
     let i = given t f in
     let k = c.in-Count.count in
     c.finish.ensures
-    ∙ ap (λ (x : Flushed). finish_of i.ring (take k f.first_piece-piece.result.now) (told x.answer).number x.count i.out) c.stopped-then-count-piece.ensures
-    ∙ flush_short i (fit t f) (wide t f) (some t f c.if-piece-eq0.false) k _ c.in-Count.is (let p = piece_len_lem t f in let m = c.if-count-piece.true in omega arith)
+    ∙ flush_short i (fit t f) (wide t f) (some t f c.if-is_empty.ensures) k _ c.in-Count.is (let p = piece_len_lem t f in let m = c.if-count-piece.true in omega arith)
     (ap (take k) f.first_piece-piece.ensures)
 
 -- past both tests the piece was taken whole
 whole : {p n len : ℕ} → len ≡ p → n ≤ len → len ≤ n → n ≡ p
 whole e a b = omega arith
 
-pub advance-requires : goal.advance-requires
-advance-requires t c =
-    let f = (goal.at.advance-requires t c).After-first_piece-piece in
+pub advanced-requires : goal.advanced-requires
+advanced-requires t c =
+    let f = (goal.at.advanced-requires t c).After-first_piece-piece in
     let p = piece_len_lem t f in
     let s = fit t f in
     omega arith
@@ -84,21 +79,21 @@ pub flush_to-rest-requires : goal.flush_to-rest-requires
 flush_to-rest-requires t c =
     let f = (goal.at.flush_to-rest-requires t c).After-first_piece-piece in
     let e = whole (piece_len_lem t f) c.if-piece-count.false c.if-count-piece.false in
-    let h = held_falls (given t f) (fit t f) (wide t f) (some t f c.if-piece-eq0.false) _ c.in-Count.is e in
+    let h = held_falls (given t f) (fit t f) (wide t f) (some t f c.if-is_empty.ensures) _ c.in-Count.is e in
     let m : used_of (given t f).ring ≡ t = c.decreases in
-    (rw c.advance.ensures (omega arith), tt)
+    (rw c.advanced.ensures (omega arith), tt)
 
-pub finish-requires-then-is_sound_over : goal.finish-requires-then-is_sound_over
-finish-requires-then-is_sound_over t c =
-    let f = (goal.at.finish-requires-then-is_sound_over t c).After-first_piece-piece in
+pub finish-requires-2 : goal.finish-requires-2
+finish-requires-2 t c =
+    let f = (goal.at.finish-requires-2 t c).After-first_piece-piece in
     let e = whole (piece_len_lem t f) c.if-piece-count.false c.if-count-piece.false in
-    rest_small (given t f) (fit t f) (wide t f) (some t f c.if-piece-eq0.false) c.in-Count.count c.in-Count.is e
-    _ _ _ f.first_piece-piece.ensures c.advance.ensures (count_small _ _ c.flush_to-rest.ensures)
+    rest_small (given t f) (fit t f) (wide t f) (some t f c.if-is_empty.ensures) c.in-Count.count c.in-Count.is e
+    _ _ c.flush_to-rest.result f.first_piece-piece.ensures c.advanced.ensures (count_small _ _ c.flush_to-rest.ensures)
 
-pub returns-then-is_sound_over : goal.returns-then-is_sound_over
-returns-then-is_sound_over t c =
-    let f = (goal.at.returns-then-is_sound_over t c).After-first_piece-piece in
+pub returns : goal.returns
+returns t c =
+    let f = (goal.at.returns t c).After-first_piece-piece in
     let e = whole (piece_len_lem t f) c.if-piece-count.false c.if-count-piece.false in
-    c.finish-then-is_sound_over.ensures
-    ∙ whole_left (given t f) (fit t f) (wide t f) (some t f c.if-piece-eq0.false) c.in-Count.count c.in-Count.is e
-    _ _ _ _ c.flush_to-rest.result f.first_piece-piece.ensures c.smaller-behind.ensures c.advance.ensures c.flush_to-rest.ensures
+    c.finish-2.ensures
+    ∙ whole_left (given t f) (fit t f) (wide t f) (some t f c.if-is_empty.ensures) c.in-Count.count c.in-Count.is e
+    _ _ _ _ c.flush_to-rest.result f.first_piece-piece.ensures c.min-behind.ensures c.advanced.ensures c.flush_to-rest.ensures

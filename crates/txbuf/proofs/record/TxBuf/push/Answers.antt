@@ -1,33 +1,27 @@
 -- `push` meets its contract: refused, or written in two runs.
-use mathlib.Core.Path.{sym, ◌∙◌}
-use native.Mathlib.Omega.{arith}
-use lib.ListN.{length}
-use Rattle.txbuf.proofs.RecordLaws.{offset_fits, offset_in}
-use Rattle.txbuf.proofs.AnswerLaws.{Ready, ready}
+use Rattle.std.proofs.Common.{length, refl, sym, arith}
+use Rattle.std.proofs.lemmas.Result.{err_from_is_err_and}
+use Rattle.txbuf.proofs.RecordLaws.{offset_in}
+use Rattle.txbuf.proofs.AnswerLaws.{ready}
 use Rattle.txbuf.proofs.PushLaws.{push_refused, push_left}
 use Rattle.txbuf.proofs.record.TxBuf.push.Goals as goal
-use Rattle.txbuf.proofs.record.TxBuf.push.Goals.{In-Done}
 
--- what is known once the answer is Done
-fit : (c : In-Done)
-    → let a = c.args in Ready a.self (length a.storage.now) (length a.src.now)
-fit c = ready _ _ _ (sym c.push_answer-answer.ensures ∙ c.in-Done.is)
-
-pub returns-in_default : goal.returns-in_default
-returns-in_default c = push_refused _ _ c.push_answer-answer.ensures c.in_default.not-Done
+pub returns-in_err-push_answer : goal.returns-in_err-push_answer
+returns-in_err-push_answer c =
+    let p = err_from_is_err_and c.from_residual.result c.from_residual.ensures.1 in rw (p.1, p.2) (push_refused _ _ (sym c.in_err-push_answer.ensures))
 
 pub nonzero_rem-at : goal.nonzero_rem-at
-nonzero_rem-at c = let r = fit (goal.at.nonzero_rem-at c).In-Done in let s = r.sound in omega arith
+nonzero_rem-at c =
+    let s = (ready c.args.self (length c.args.storage.now) (length c.args.src.now) (sym c.in_ok-push_answer.ensures)).sound in omega arith
 
-pub overflow_cast-at : goal.overflow_cast-at
-overflow_cast-at c = let r = fit (goal.at.overflow_cast-at c).In-Done in let s = r.sound in offset_fits _ _ (omega arith) s.most
-
-pub overflow_cast-src : goal.overflow_cast-src
-overflow_cast-src c = let r = fit (goal.at.overflow_cast-src c).In-Done in let s = r.sound in omega arith
+pub overflow_cast-head : goal.overflow_cast-head
+overflow_cast-head c =
+    let r = ready c.args.self (length c.args.storage.now) (length c.args.src.now) (sym c.in_ok-push_answer.ensures) in omega arith
 
 pub write_runs-requires : goal.write_runs-requires
-write_runs-requires c = let r = fit (goal.at.write_runs-requires c).In-Done in offset_in _ _ _ (omega arith) r.sound.whole
+write_runs-requires c =
+    let s = (ready c.args.self (length c.args.storage.now) (length c.args.src.now) (sym c.in_ok-push_answer.ensures)).sound in
+    offset_in _ _ _ (omega arith) s.whole
 
 pub returns : goal.returns
-returns c =
-    push_left _ _ _ _ c.push_answer-answer.ensures c.in-Done.is c.wrapping_add-head.ensures c.write_runs.ensures
+returns c = push_left _ _ _ (sym c.in_ok-push_answer.ensures) refl c.write_runs.ensures

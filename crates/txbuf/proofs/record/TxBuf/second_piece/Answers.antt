@@ -3,9 +3,9 @@ use Rattle.txbuf.specs.Flush.{second_piece}
 use Rattle.txbuf.proofs.FlushLaws.{piece_small}
 use Rattle.txbuf.proofs.record.TxBuf.second_piece.Goals as goal
 
-pub advance-requires : goal.advance-requires
-advance-requires c = rw c.first_piece-first.ensures (piece_small _ _)
+pub advanced-requires : goal.advanced-requires
+advanced-requires c = rw c.first_piece-first.ensures (piece_small _ _)
 
 pub returns : goal.returns
 unfolding second_piece
-returns c = rw (c.first_piece.ensures, c.advance.ensures, c.first_piece-first.ensures)
+returns c = rw (c.first_piece.ensures, c.advanced.ensures, c.first_piece-first.ensures)

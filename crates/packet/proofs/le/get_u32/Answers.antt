@@ -1,9 +1,0 @@
--- 4 bytes are below 2 ^ 32.
-use native.Mathlib.Omega.{arith}
-use Rattle.packet.proofs.LeLaws.{below}
-use Rattle.packet.proofs.le.get_u32.Goals as goal
-
-pub overflow_cast-result : goal.overflow_cast-result
-overflow_cast-result c =
-    let a = c.args in
-    omega (arith, below 4 a.bytes.now a.at 4 (λ k. (c.type_inv.bytes k).fits) (omega arith))

@@ -1,9 +1,0 @@
-use Prim.Native.Nat.{◌-◌, ◌≤◌}
-use Rattle.defs.specs.Limits.{max_rxq}
-use Rattle.replay_calls.proofs.rxq_calls.queue_of.Given as goal
-
-abbrev pub invariant-loop-i : goal.invariant-loop-i
-invariant-loop-i l = l.i ≤ max_rxq
-
-abbrev pub decreases-loop-i : goal.decreases-loop-i
-decreases-loop-i l = max_rxq - l.i
