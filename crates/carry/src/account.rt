@@ -50,12 +50,11 @@ fn told<R: Runtime>(rt: &R, what: &str, error: io::Error) -> io::Result<()> {
 pub fn account<R: Runtime>(rt: &R, t: Trip) -> io::Result<()> {
     let held = t.conn.tx_buf.used();
     eprint!(rt;
-        "packets {}, bytes in {}, bytes taken {}",
-        t.packets, t.bytes_in, t.taken
+        "packets {}, bytes in {}, bytes taken {}, most held {}",
+        t.packets, t.bytes_in, t.taken, t.most
     )?;
-    eprint!(rt; ", most held {}, held now {held}", t.most)?;
     eprint!(rt;
-        ", credit updates {}, forwarded count {}",
+        ", held now {held}, credit updates {}, forwarded count {}",
         t.updates, t.conn.fwd_cnt
     )?;
     if WRAP <= t.taken {
@@ -69,12 +68,12 @@ pub fn account<R: Runtime>(rt: &R, t: Trip) -> io::Result<()> {
 fn verdict<R: Runtime>(rt: &R, t: Trip, held: u32) -> io::Result<()> {
     if let Some(refusal) = t.refusal() {
         let number = u8::from(refusal);
-        eprint!(rt; "carry: a call was refused with answer {number}")?;
         // Those that change nothing are 1 to 6.
         if number <= 6 {
-            eprint!(rt; ", {refusal:?}")?;
+            eprintln!(rt; "carry: a call was refused with answer {number}, {refusal:?}")?;
+        } else {
+            eprintln!(rt; "carry: a call was refused with answer {number}")?;
         }
-        eprintln!(rt; "")?;
     }
     if t.bytes_in != t.taken || held != 0 {
         eprintln!(rt; "carry: the stream took what is said above, the rest did not go on")?;

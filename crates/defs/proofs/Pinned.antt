@@ -3,6 +3,7 @@ use Rattle.std.proofs.Common.{ℕ, Bool, List}
 use Rattle.defs.specs.Answer.{Answer}
 use Rattle.defs.specs.Pinned.{Pinned}
 use Rattle.defs.proofs.Pins.{by_equation}
+use Rattle.defs.proofs.answer.U8FromRefusal.from.Reads as from
 use Rattle.defs.proofs.answer.number_of.Reads as number_of
 use Rattle.defs.proofs.stream.StreamAnswer.has_failed.Reads as has_failed
 use Rattle.defs.proofs.stream.StreamAnswer.stopped_by.Reads as stopped_by
@@ -26,6 +27,7 @@ use Rattle.defs.proofs.copying.vsock_copy.Reads as vsock_copy
 
 -- any two outcomes that meet a call's contract are identical: what it gives back, its answer by `told`, and what it leaves behind each `&mut`; the first parameter's end is `e.0`, the second's `e.1.0`
 pub record EachCallPinned : Type 0 where
+  pub from : Pinned from.Learnt ℕ (λ l r e. r)
   pub number_of : Pinned number_of.Learnt ℕ (λ l r e. r)
   pub has_failed : Pinned has_failed.Learnt Bool (λ l r e. r)
   pub stopped_by : Pinned stopped_by.Learnt Answer (λ l r e. r)
@@ -49,6 +51,7 @@ pub record EachCallPinned : Type 0 where
 
 pub each_call_pinned : EachCallPinned
 each_call_pinned = record {
+  from = by_equation _ _ _;
   number_of = by_equation _ _ _;
   has_failed = by_equation _ _ _;
   stopped_by = by_equation _ _ _;

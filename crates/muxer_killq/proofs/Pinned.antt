@@ -7,6 +7,7 @@ use Rattle.queue.specs.Queued.{QueuedLeft}
 use Rattle.queue.specs.Pop.{pop_seen}
 use Rattle.muxer_killq.specs.Pop.{no_key, PopLeft}
 use Rattle.muxer_killq.specs.Queue.{MuxerKillQ}
+use Rattle.muxer_killq.proofs.item.MuxerKillQItemItem.is_zero.Reads as is_zero
 use Rattle.muxer_killq.proofs.killq.MuxerKillQKillQueue.from_conn_map.Reads as from_conn_map
 use Rattle.muxer_killq.proofs.killq.MuxerKillQKillQueue.push.Reads as push
 use Rattle.muxer_killq.proofs.killq.MuxerKillQKillQueue.pop.Reads as pop
@@ -14,10 +15,11 @@ use Rattle.muxer_killq.proofs.item.MuxerKillQItem.eq.Reads as eq
 
 -- any two outcomes that meet a call's contract are identical: what it gives back, its answer by `told`
 pub record EachCallPinned : Type 0 where
+  pub is_zero : Pinned is_zero.Learnt Bool (λ l r e. r)
   pub from_conn_map : Pinned from_conn_map.Learnt (QueuedLeft MuxerKillQ) (λ l r e. record { answer = told r.answer; queue = r.queue })
   pub push : Pinned push.Learnt (QueuedLeft MuxerKillQ) (λ l r e. record { answer = told r.answer; queue = r.queue })
   pub pop : Pinned pop.Learnt PopLeft (λ l r e. pop_seen no_key r.given r.queue)
   pub eq : Pinned eq.Learnt Bool (λ l r e. r)
 
 pub each_call_pinned : EachCallPinned
-each_call_pinned = record { from_conn_map = by_equation _ _ _; push = by_equation _ _ _; pop = by_equation _ _ _; eq = by_equation _ _ _ }
+each_call_pinned = record { is_zero = by_equation _ _ _; from_conn_map = by_equation _ _ _; push = by_equation _ _ _; pop = by_equation _ _ _; eq = by_equation _ _ _ }

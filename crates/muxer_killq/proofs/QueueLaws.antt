@@ -1,11 +1,15 @@
 -- What the test of the kill queue means, and that it is lawful as a queue: its test finds just the zero item, its limits have their places. Assumes nothing.
 use Prim.Native.Nat.{ℕ, ◌≤◌}
-use mathlib.Core.Path.{◌≡◌, refl, sym, ◌∙◌}
-use mathlib.Core.Bool.{Bool, true}
+use mathlib.Core.Path.{◌≡◌, refl, sym, ap, ◌∙◌}
+use mathlib.Core.Bool.{Bool, true, false, not}
 use borrow.Author.Tests.{le-leb, leb-true, not-false}
 use lib.Dec.{leb}
-use Rattle.defs.specs.Limits.{min_killq, max_killq, is_killq_limit}
-use Rattle.defs.specs.Ladder.{clock_answer}
+use mathlib.Core.Logic.{◌⊎◌, inl, inr}
+use Rattle.std.specs.Prelude.{Option, None, Ok}
+use Rattle.std.specs.Result.{result_and}
+use Rattle.defs.specs.Choice.{when}
+use Rattle.defs.specs.Limits.{min_killq, max_killq, is_killq_limit, is_clock}
+use Rattle.defs.specs.Ladder.{door_of, record_answer, clock_answer}
 use Rattle.defs.specs.Promises.{Exactly}
 use Rattle.defs.proofs.Basics.{both}
 use Rattle.defs.proofs.LadderLaws.{door_passed}
@@ -38,6 +42,23 @@ limit_means = in_range
 
 pub sound_means : SoundMeans
 sound_means = every.sound_means killq zero_passes zero_alone 1 128 in_range
+
+-- the answer of a call that tests its clock too, where the clock is in range
+pub in_time : (sound : Bool) (clock : ℕ) → is_clock clock ≡ true → record_answer sound ≡ clock_answer sound clock
+unfolding record_answer clock_answer
+in_time sound clock e = ap (λ (b : Bool). door_of (not sound) false (not b) false) (sym e)
+
+-- a clock that is out of range gives nothing, whatever is due
+pub none_given : {G : Type 0} (sound : Bool) (clock : ℕ) (o : Option G) → (o ≡ None) ⊎ (is_clock clock ≡ false)
+    → result_and (clock_answer sound clock) (Ok None) ≡ result_and (clock_answer sound clock) (Ok o)
+unfolding clock_answer door_of when
+none_given {G = G} sound clock o (inl e) = ap (λ (p : Option G). result_and (clock_answer sound clock) (Ok p)) (sym e)
+none_given {G = G} sound clock o (inr e) = by sound (is_clock clock) e
+  where
+    by : (s b : Bool) → b ≡ false → result_and {U = Option G} (door_of (not s) false (not b) false) (Ok None) ≡ result_and (door_of (not s) false (not b) false) (Ok o)
+    by true false e = refl
+    by false false e = refl
+    by s true e = absurd cc
 
 -- past a refusal of a call that tests queue or table, and clock
 pub clock_passed : (a : Answer) (sound : Bool) (clock : ℕ) → a ≡ clock_answer sound clock → a ≡ done → sound ≡ true

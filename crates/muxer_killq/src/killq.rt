@@ -1,14 +1,15 @@
 // What the kill queue does beside what every queue does.
 ghost use Rattle.std.specs.Prelude.{◌≡◌};
 ghost use Rattle.defs.specs.Answer.{told};
-ghost use Rattle.queue.specs.Pop.{pop_seen};
+ghost use Rattle.queue.specs.Pop.{pop_seen, mapped};
 ghost use Rattle.muxer_killq.specs.Push.{PushIn, PushSays};
-ghost use Rattle.muxer_killq.specs.Pop.{no_key, PopIn, PopSays};
+ghost use Rattle.muxer_killq.specs.Pop.{no_key, key_in, PopIn, PopSays};
 ghost use Rattle.muxer_killq.specs.Build.{BuildIn, BuildSays};
 
 use crate::build;
 use crate::item::MuxerKillQItem;
 use conn_map::ConnMapKey;
+use defs::Refusal;
 use defs::limits::{self, MAX_KILLQ_SIZE};
 use queue::Queue;
 
@@ -60,19 +61,27 @@ impl KillQueue for MuxerKillQ {
         ensures { PopSays (record { queue = self; clock = clock }) (pop_seen no_key result.given result.queue) }
     {
         let due = self.front().filter(|front| front.kill_time < clock);
-        match defs::clock_answer(self.is_sound(), clock).and(Ok(due)) {
-            Ok(Some(front)) => Popped {
-                given: Ok(Some(front.key())),
-                queue: self.pop_front().queue,
-            },
-            Ok(None) => Popped {
-                given: Ok(None),
+        if due.is_none() || !limits::is_clock(clock) {
+            return Popped {
+                given: defs::clock_answer(self.is_sound(), clock).and(Ok(None)),
                 queue: self,
-            },
-            Err(refusal) => Popped {
-                given: Err(refusal),
-                queue: self,
-            },
+            };
         }
+        // The pop looks whether the queue is sound, which is done once in a call.
+        let popped = self.pop_front();
+        Popped {
+            given: keys(popped.given),
+            queue: popped.queue,
+        }
+    }
+}
+
+// What is given, for the item that goes.
+fn keys(given: Result<Option<MuxerKillQItem>, Refusal>) -> Result<Option<ConnMapKey>, Refusal>
+    ensures { result ≡ mapped key_in given }
+{
+    match given? {
+        Some(front) => Ok(Some(front.key())),
+        None => Ok(None),
     }
 }

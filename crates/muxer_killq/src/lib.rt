@@ -6,6 +6,8 @@
 mod build;
 mod item;
 mod killq;
+#[cfg(test)]
+mod tests;
 
 pub use item::MuxerKillQItem;
 pub use killq::{KillQueue, MuxerKillQ, Popped, Queued};

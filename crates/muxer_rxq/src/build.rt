@@ -8,7 +8,8 @@ ghost use Rattle.muxer_rxq.specs.Build.{conn_to, built_from, marked};
 use crate::rxq::{MuxerRx, MuxerRxQ};
 use queue::Queue;
 
-// A table is lent as slices of one length each (01), not as one thing.
+// A table is lent as slices of one length each (01), not as one thing. The walk stops at the first
+// pending slot that finds the queue full.
 pub(crate) fn walk(limit: usize, ports: &[u64], used: &[u8], pending: &[u8]) -> MuxerRxQ
     requires { (limit ≤ max_rxq) × (length used.now ≡ length ports.now) × (length pending.now ≡ length ports.now) }
     ensures { result ≡ built_from limit (slots_of ports.now used.now pending.now) }
@@ -20,6 +21,7 @@ pub(crate) fn walk(limit: usize, ports: &[u64], used: &[u8], pending: &[u8]) -> 
         .zip(pending)
         .filter(|((_, used), pending)| is_marked(**used, **pending))
         .map(|((ports, _), _)| connection(*ports))
+        .take(limit + 1)
     {
         queue.take_in(item);
     }

@@ -6,5 +6,7 @@
 mod build;
 mod push;
 mod rxq;
+#[cfg(test)]
+mod tests;
 
 pub use rxq::{MuxerRx, MuxerRxQ, Popped, Queued, RxQueue};

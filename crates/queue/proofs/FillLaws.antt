@@ -7,8 +7,9 @@ use mathlib.Core.List.{List, [], ◌∷◌, ◌++◌, map-id, append-nil}
 use native.Mathlib.Omega.{arith}
 use borrow.Author.Tests.{ltb-true, lt-ltb, le-ltb, lt-leb, le-leb}
 use lib.Dec.{leb, ltb}
-use lib.ListN.{length, take, set, length-append, length-take}
-use lib.Seq.{append_snoc, take_all, take-append-le}
+use lib.ListN.{length, take, drop, set, length-append, length-take}
+use lib.Seq.{append_snoc, take_all, length-take-le, take-append-le}
+use Rattle.std.proofs.lemmas.List.{take-append-drop}
 use Rattle.std.specs.Prelude.{Option, None}
 use Rattle.std.specs.Iterator.{Yields}
 use Rattle.std.proofs.lemmas.Iterator.{YieldsList}
@@ -68,6 +69,19 @@ module _ {Q A : Type 0} (k : Kind Q A) (w : Lawful k) (limit : ℕ) (h : limit �
       rw (take-append-le limit l (x ∷ []) t, lt-leb (length (l ++ (x ∷ []))) limit n)
       (in_not k w limit x (take limit l) (leb (length l) limit) (omega (arith, length-take limit l))))
       (lt_or_ge (length l) limit)
+
+  -- of the items past the limit the first tells all
+  pub filled_first : (l : List A) → filled k limit (take (limit + 1) l) ≡ filled k limit l
+  filled_first l =
+      ⊎_elim
+      (λ (t : length l < limit + 1). ap (filled k limit) (take_all (limit + 1) l (omega arith)))
+      (λ (t : limit + 1 ≤ length l).
+      let n : length (take (limit + 1) l) ≡ limit + 1 = length-take-le (limit + 1) l t in
+      let m : limit < length (take (limit + 1) l) = omega (arith, n) in
+      let f : take limit (take (limit + 1) l) ≡ take limit l =
+      sym (take-append-le limit (take (limit + 1) l) (drop (limit + 1) l) (omega arith)) ∙ ap (take limit) (take-append-drop (limit + 1) l) in
+      rw (f, lt-leb (length (take (limit + 1) l)) limit m, lt-leb (length l) limit (omega arith)) refl)
+      (lt_or_ge (length l) (limit + 1))
 
   all_more : (m l : List A) → all_in k m (filled k limit l) ≡ filled k limit (l ++ m)
   unfolding all_in

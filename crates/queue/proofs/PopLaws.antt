@@ -13,10 +13,10 @@ use Rattle.defs.specs.declared.answer.Refusal.{Refusal}
 use Rattle.defs.specs.Answer.{told, is_done, when_done, Answer, done}
 use Rattle.defs.proofs.ChoiceLaws.{when_holds}
 use Rattle.queue.specs.Queue.{Kind, Lawful, padded, sound_q, items, front_gone}
-use Rattle.defs.specs.Ladder.{door_of, record_answer}
+use Rattle.defs.specs.Ladder.{record_answer}
 use Rattle.queue.specs.Look.{PeekSays, peek_seen, front_of}
 use Rattle.queue.proofs.LookLaws.{peek_is}
-use Rattle.queue.specs.Pop.{PopLeft, PopFrontSays, pop_seen, pop_list, pop_of}
+use Rattle.queue.specs.Pop.{PopLeft, PopFrontSays, pop_seen, mapped, pop_list, pop_of}
 use Rattle.queue.proofs.PlacesLaws.{places_up}
 use Rattle.queue.proofs.QueueLaws.{Sound, packs, items_within, sound_stays_sound}
 
@@ -86,34 +86,36 @@ module _ {Q A G : Type 0} (k : Kind Q A) (nothing : G) (due : A → Bool) (give 
       by (Ok tt) (x ∷ l) h g = (refl, held_some (k.seen q).len (k.seen q).places l x h)
       by (Err a) l h g = absurd cc
 
-  -- and a pop of the front takes it
-  pub pop_gone : (y : G) → r ≡ Ok (Some y) → (p ≡ done → sound_q k q ≡ true) → (t : Result (Option A) Refusal) (m : Q) → PopFrontSays k q (pop_seen k.zero_item t m) → m ≡ front_gone k q
-  unfolding pop_of pop_list when_done when record_answer door_of
-  pop_gone y f s t m says = sym (left_is t m) ∙ ap (λ (o : PopLeft A Q). o.queue) says ∙ by p (items k q) refl (sym e ∙ f) s
+-- where the front is due, a pop of the front is that of it
+module _ {Q A G : Type 0} (k : Kind Q A) (nothing : G) (due : A → Bool) (give : A → G) (q : Q) (x : A) (t : Result (Option A) Refusal) (m : Q) where
+  pub pop_due : due_front due (items k q) ≡ Some x → PopFrontSays k q (pop_seen k.zero_item t m) → pop_seen nothing (mapped give t) m ≡ pop_of k nothing due give (record_answer (sound_q k q)) q
+  unfolding pop_of pop_list when_done when
+  pop_due d says = by (record_answer (sound_q k q)) (items k q) d says
     where
-      left_is : (t : Result (Option A) Refusal) (m : Q) → (pop_seen k.zero_item t m).queue ≡ m
-      left_is (Ok (Some x)) m = refl
-      left_is (Ok None) m = refl
-      left_is (Err a) m = refl
+      kept : {B : Type 0} → B → Answer → PopLeft B Q
+      kept z p = record { answer = told p; found = false; given = z; queue = q }
 
-      by : (p : Answer) (l : List A) → items k q ≡ l → result_and p (Ok (option_map give (due_front due l))) ≡ Ok (Some y) → (p ≡ done → sound_q k q ≡ true)
-          → (pop_of k k.zero_item (λ x. true) (λ x. x) (record_answer (sound_q k q)) q).queue ≡ front_gone k q
-      by (Ok u) [] h g s = absurd cc
-      by (Ok u) (x ∷ l) h g s = rw (s refl) (ap (λ (m : List A). (pop_list k k.zero_item (λ x. true) (λ x. x) q m).queue) h)
-      by (Err a) l h g s = absurd cc
+      gone : (s : Result (Option A) Refusal) (y : A) → pop_seen k.zero_item s m ≡ record { answer = told done; found = true; given = y; queue = front_gone k q }
+          → pop_seen nothing (mapped give s) m ≡ record { answer = told done; found = true; given = give y; queue = front_gone k q }
+      gone (Ok (Some z)) y e = λ i. record { answer = told done; found = true; given = give (e i).given; queue = (e i).queue }
+      gone (Ok None) y e = let f : false ≡ true = ap (λ (o : PopLeft A Q). o.found) e in absurd cc
+      gone (Err a) y e = let f : false ≡ true = ap (λ (o : PopLeft A Q). o.found) e in absurd cc
 
--- what is given of the item of a result
-abbrev pub mapped : {A G : Type 0} → (A → G) → Result (Option A) Refusal → Result (Option G) Refusal
-mapped give (Ok o) = Ok (option_map give o)
-mapped give (Err p) = Err p
+      refused : (s : Result (Option A) Refusal) (a : Refusal) → pop_seen k.zero_item s m ≡ kept k.zero_item (Err a) → pop_seen nothing (mapped give s) m ≡ kept nothing (Err a)
+      refused (Ok (Some z)) a e = let f : true ≡ false = ap (λ (o : PopLeft A Q). o.found) e in absurd cc
+      refused (Ok None) a e = λ i. record { answer = (e i).answer; found = false; given = nothing; queue = (e i).queue }
+      refused (Err b) a e = λ i. record { answer = (e i).answer; found = false; given = nothing; queue = (e i).queue }
 
-pub mapped_is : {A G : Type 0} (give : A → G) (p : Answer) (o : Option A) (r s : Result (Option A) Refusal) → r ≡ result_and p (Ok o) → r ≡ s
-    → mapped give s ≡ result_and p (Ok (option_map give o))
-mapped_is {A = A} give p o r s e f = ap (mapped give) (sym f ∙ e) ∙ by p
-  where
-    by : (p : Answer) → mapped give (result_and p (Ok o)) ≡ result_and p (Ok (option_map give o))
-    by (Ok u) = refl
-    by (Err a) = refl
+      when_due : (y : A) (b : Bool) → cond b (Some y) None ≡ Some x → pop_seen k.zero_item t m ≡ record { answer = told done; found = true; given = y; queue = front_gone k q }
+          → pop_seen nothing (mapped give t) m ≡ when b (record { answer = told done; found = true; given = give y; queue = front_gone k q }) (kept nothing done)
+      when_due y true d e = gone t y e
+      when_due y false d e = absurd cc
+
+      by : (p : Answer) (l : List A) → due_front due l ≡ Some x → pop_seen k.zero_item t m ≡ when_done p (pop_list k k.zero_item (λ x. true) (λ x. x) q l) (kept k.zero_item p)
+          → pop_seen nothing (mapped give t) m ≡ when_done p (pop_list k nothing due give q l) (kept nothing p)
+      by (Ok u) [] d e = absurd cc
+      by (Ok u) (y ∷ l) d e = when_due y (due y) d e
+      by (Err a) l d e = refused t a e
 
 -- a front that is due whatever it is, given as it is, is what a peek gives
 pub peek_gives : {Q A : Type 0} (k : Kind Q A) (q : Q) (r : Result (Option A) Refusal) → PeekSays k q (peek_seen k.zero_item r)

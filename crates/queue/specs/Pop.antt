@@ -1,5 +1,6 @@
 -- A pop (01, "The two queues"), whatever makes the front due and whatever is given of it. Assumes nothing.
 use Rattle.std.specs.Prelude.{◌≡◌, Option, Some, None, Result, Ok, Err, Bool, true, false, List, [], ◌∷◌}
+use Rattle.std.specs.Option.{option_map}
 use Rattle.defs.specs.Choice.{when}
 use Rattle.defs.specs.Answer.{Told, told, when_done, Answer, done}
 use Rattle.defs.specs.declared.answer.Refusal.{Refusal}
@@ -17,6 +18,11 @@ abbrev pub pop_seen : {G Q : Type 0} → G → Result (Option G) Refusal → Q �
 pop_seen nothing (Ok (Some x)) q = record { answer = told done; found = true; given = x; queue = q }
 pop_seen nothing (Ok None) q = record { answer = told done; found = false; given = nothing; queue = q }
 pop_seen nothing (Err r) q = record { answer = told (Err r); found = false; given = nothing; queue = q }
+
+-- a result that gives something of its item, in the item's place
+abbrev pub mapped : {A G : Type 0} → (A → G) → Result (Option A) Refusal → Result (Option G) Refusal
+mapped give (Ok o) = Ok (option_map give o)
+mapped give (Err r) = Err r
 
 -- nothing is given, and the queue is as it was
 abbrev none : {G Q : Type 0} → G → Answer → Q → PopLeft G Q

@@ -1,9 +1,10 @@
 -- What a writer holds and a reader has left after one piece, and after one more. Assumes nothing.
-use Rattle.std.proofs.Common.{◌≤◌, ◌+◌, take, length, ap, ◌∙◌, ◌≡◌, refl, sym, ℕ, List, [], ◌++◌, Option, None, Some}
+use Rattle.std.proofs.Common.{◌≤◌, ◌+◌, take, length, ap, ◌∙◌, ◌≡◌, refl, sym, ℕ, List, [], ◌∷◌, ◌++◌, Option, None, Some}
 use Rattle.std.specs.Io.KnownBytes.{Appends, Consumes}
 use Rattle.std.proofs.lemmas.List.{append-nil, append_assoc, length-take-le, take-append-le}
 use Rattle.std.proofs.Math.Seq.{take-append-add}
 use borrow.Rule.Slice.PartMut.{put_mid}
+use Rattle.text.specs.Hex.{hex_of, hexed}
 
 pub appends_nothing : (o : Option (List ℕ)) → Appends o o []
 appends_nothing None = tt
@@ -14,6 +15,10 @@ appends_more None p q more bs h k = tt
 appends_more (Some xs) None q more bs h k = elim h [ ]
 appends_more (Some xs) (Some ys) None more bs h k = elim k [ ]
 appends_more (Some xs) (Some ys) (Some zs) more bs h k = rw (k, h) (append_assoc xs more bs)
+
+pub hexed_one : (b : ℕ) → hexed (0 ∷ 0 ∷ []) (b ∷ []) ≡ hex_of (b ∷ [])
+unfolding hexed
+hexed_one b = refl
 
 pub consumes_nothing : (o : Option (List ℕ)) → Consumes o o []
 consumes_nothing None = tt

@@ -1,5 +1,5 @@
 // Words, numbers and bytes on a writer: on standard output, where a program hands it that.
-ghost use Rattle.std.specs.Prelude.{◌++◌};
+ghost use Rattle.std.specs.Prelude.{◌++◌, ◌∷◌, []};
 ghost use Rattle.std.specs.Fmt.{decimal};
 ghost use Rattle.text.specs.Hex.{hex_of};
 ghost use Rattle.text.specs.Print.{WriteSays, number_text, yes_text};
@@ -38,16 +38,25 @@ pub fn named<W: Write>(out: &mut W, name: &[u8], n: u64) -> io::Result<()>
 pub fn yes<W: Write>(out: &mut W, holds: bool) -> io::Result<()>
     ensures { WriteSays (yes_text holds) (W.contents out.old) (W.contents out.new) result }
 {
-    let word = if holds { "yes" } else { "no" };
-    write!(out, " {word}")
+    let word = if holds { " yes" } else { " no" };
+    say(out, word.as_bytes())
 }
 
 // Two digits for each byte.
 pub fn bytes<W: Write>(out: &mut W, shown: &[u8]) -> io::Result<()>
     ensures { WriteSays (hex_of shown.now) (W.contents out.old) (W.contents out.new) result }
 {
-    for byte in shown {
-        write!(out, "{byte:02x}")?;
+    for one in shown {
+        byte(out, *one)?;
     }
     Ok(())
+}
+
+// Both digits at once: standard output has no buffer, and `{:02x}` writes the 0 of a small byte apart.
+fn byte<W: Write>(out: &mut W, b: u8) -> io::Result<()>
+    ensures { WriteSays (hex_of (b ∷ [])) (W.contents out.old) (W.contents out.new) result }
+{
+    let mut digits = [0u8; 2];
+    crate::hex(&[b], &mut digits);
+    say(out, &digits)
 }
